@@ -1,0 +1,5 @@
+pub mod Digits
+pub mod Kept
+pub mod Pairs
+pub mod Splits
+pub mod Steps

@@ -1,0 +1,12 @@
+pub mod Steps
+pub mod Parity
+pub mod Laying
+pub mod Hearing
+pub mod Holding
+pub mod Gathers
+pub mod Sums
+pub mod Tellings
+pub mod Frames
+pub mod Examples
+pub mod Parts
+pub mod Apart

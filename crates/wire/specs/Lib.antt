@@ -1,0 +1,9 @@
+pub mod Numbers
+pub mod Checksum
+pub mod Line
+pub mod Framing
+pub mod Frames
+pub mod Checking
+pub mod Receiving
+pub mod Holding
+pub mod Worked

@@ -1,0 +1,36 @@
+-- Worked examples: checksums, marks, frames heard and lost. Assumes nothing.
+use mathlib.Core.Path.{_≡_}
+use mathlib.Core.List.{List, [], _∷_, _++_}
+use Prim.Native.Nat.{ℕ}
+use lib.ListN.{take}
+use Rattle.wire.specs.Checksum.{register}
+use Rattle.wire.specs.Framing.{bodyOf}
+use Rattle.wire.specs.Frames.{Heard}
+use Rattle.wire.specs.Line.{Marked, Completes, framed}
+
+-- a request to read the object 3200:01 of node 1
+abbrev pub request : List ℕ
+request = 0x90 ∷ 0x02 ∷ 0x60 ∷ 0x02 ∷ 0x01 ∷ 0x00 ∷ 0x32 ∷ 0x01 ∷ 0x8C ∷ 0x80 ∷ []
+
+-- a request to write 0x90 to it
+abbrev pub write-request : List ℕ
+write-request = 0x90 ∷ 0x02 ∷ 0x68 ∷ 0x04 ∷ 0x01 ∷ 0x00 ∷ 0x32 ∷ 0x01 ∷ 0x90 ∷ 0x90 ∷ 0x00 ∷ 0x00 ∷ 0x00 ∷ 0x7A ∷ 0xB1 ∷ []
+
+-- both, and then a lone 0x90
+abbrev pub three-lines : List ℕ
+three-lines = request ++ (write-request ++ 0x90 ∷ [])
+
+pub record Worked : Type 0 where
+  pub sum-one : register (0x1001 ∷ 0x2003 ∷ 0x0201 ∷ 0x0000 ∷ []) 0 ≡ 0xA888
+  pub sum-two : register (0x0003 ∷ 0x0000 ∷ 0x0000 ∷ 0x2010 ∷ 0x6210 ∷ 0x0000 ∷ []) 0 ≡ 0x2610
+  pub mark : Marked (0x90 ∷ 0x90 ∷ 0x90 ∷ 0x02 ∷ [])
+  pub no-mark : Marked (0x90 ∷ 0x90 ∷ 0x02 ∷ []) → ⊥
+  pub first-heard : Heard request 0x60 (0x01 ∷ 0x00 ∷ 0x32 ∷ 0x01 ∷ [])
+  pub second-heard : Heard (request ++ write-request) 0x68 (0x01 ∷ 0x00 ∷ 0x32 ∷ 0x01 ∷ 0x90 ∷ 0x00 ∷ 0x00 ∷ 0x00 ∷ [])
+  -- after the lone 0x90 the request is lost: no front of it completes a body
+  pub fourth-unheard : (k : ℕ) (body : List ℕ) → Completes (three-lines ++ take k request) body → ⊥
+  -- the same bytes once more are heard
+  pub fifth-heard : Heard (three-lines ++ (request ++ request)) 0x60 (0x01 ∷ 0x00 ∷ 0x32 ∷ 0x01 ∷ [])
+  -- ReadObject of the EPOS4 Communication Guide: the request and its answer
+  pub guide-request : framed (bodyOf 0x60 (0x01 ∷ 0xB0 ∷ 0x30 ∷ 0x00 ∷ [])) ≡ 0x90 ∷ 0x02 ∷ 0x60 ∷ 0x02 ∷ 0x01 ∷ 0xB0 ∷ 0x30 ∷ 0x00 ∷ 0x2E ∷ 0x62 ∷ []
+  pub guide-answer : framed (bodyOf 0x00 (0x00 ∷ 0x00 ∷ 0x00 ∷ 0x00 ∷ 0x01 ∷ 0x90 ∷ 0x00 ∷ 0x00 ∷ [])) ≡ 0x90 ∷ 0x02 ∷ 0x00 ∷ 0x04 ∷ 0x00 ∷ 0x00 ∷ 0x00 ∷ 0x00 ∷ 0x01 ∷ 0x90 ∷ 0x90 ∷ 0x00 ∷ 0x00 ∷ 0x9A ∷ 0x5C ∷ []
