@@ -1,0 +1,4 @@
+pub mod Tables
+pub mod NumberTables
+pub mod RunTables
+pub mod Soundness
