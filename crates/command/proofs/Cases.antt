@@ -1,0 +1,137 @@
+-- The worked cases, by computation.
+use mathlib.Core.Path.{refl}
+use Rattle.command.specs.Frames.{verb, len, node-of, address, payload, number, declared, read-toggle, write-toggle, size, marked, part}
+use Rattle.command.specs.Checks.{first, fault}
+use Rattle.command.specs.Answers.{four, answer-control}
+use Rattle.command.specs.Commands.{answer, next-chain, write-of, carry}
+use Rattle.command.specs.Worked.{Worked, after}
+
+pub worked : Worked
+unfolding verb len node-of address payload number declared read-toggle write-toggle size marked part first fault four answer-control answer next-chain write-of carry after
+worked =
+    record {
+      opcode = (refl, refl);
+      opcode-00 = (refl, refl);
+      opcode-70 = (refl, refl);
+      opcode-7A = (refl, refl);
+      opcode-7B = (refl, refl);
+      len = (refl, refl);
+      len-of-81 = (refl, refl);
+      len-of-68 = (refl, refl);
+      len-of-69 = (refl, refl);
+      len-of-62 = (refl, refl);
+      len-of-6A = (refl, refl);
+      len-of-6A-130 = (refl, refl);
+      node = (refl, refl);
+      node-0 = (refl, refl);
+      no-chain-62 = (refl, refl);
+      no-chain-6A = (refl, refl);
+      other-direction = (refl, refl);
+      toggle = (refl, refl);
+      n-against-len = (refl, refl);
+      n-under-len = (refl, refl);
+      sum-over = (refl, refl);
+      last-short = (refl, refl);
+      index = (refl, refl);
+      subindex = (refl, refl);
+      read-of-wo = (refl, refl);
+      read-of-wo-81 = (refl, refl);
+      write-of-ro = (refl, refl);
+      write-of-ro-69 = (refl, refl);
+      read-on-run = (refl, refl);
+      write-on-run = (refl, refl);
+      over-length = (refl, refl);
+      over-width = (refl, refl);
+      under-length = (refl, refl);
+      over-high = (refl, refl);
+      under-low = (refl, refl);
+      over-high-6A = (refl, refl);
+      under-low-6A = (refl, refl);
+      node-68 = (refl, refl);
+      node-69 = (refl, refl);
+      toggle-62 = (refl, refl);
+      index-81 = (refl, refl);
+      index-68 = (refl, refl);
+      index-69 = (refl, refl);
+      subindex-81 = (refl, refl);
+      subindex-68 = (refl, refl);
+      subindex-69 = (refl, refl);
+      opcode-len = (refl, refl);
+      len-node = (refl, refl);
+      len-node-68 = (refl, refl);
+      len-no-chain-62 = (refl, refl);
+      len-no-chain-6A = (refl, refl);
+      node-index = (refl, refl);
+      node-subindex = (refl, refl);
+      no-chain-toggle-62 = (refl, refl);
+      no-chain-toggle-6A = (refl, refl);
+      no-chain-misfit = (refl, refl);
+      toggle-misfit = (refl, refl);
+      misfit-sum-over = (refl, refl);
+      misfit-last-short = (refl, refl);
+      sum-over-marked = (refl, refl);
+      sum-over-high = (refl, refl);
+      last-short-under-low = (refl, refl);
+      wo-run-60 = (refl, refl);
+      ro-run-68 = (refl, refl);
+      ro-over-length-69 = (refl, refl);
+      ro-under-length-69 = (refl, refl);
+      low-above-high = (refl, refl);
+      low-above-high-below = (refl, refl);
+      read-1 = refl;
+      read-negative = refl;
+      read-4 = refl;
+      write-lowest = refl;
+      write-low-bytes = refl;
+      write-highest = refl;
+      write-negative = refl;
+      initiate-read-0 = refl;
+      initiate-read-1 = refl;
+      initiate-read-3 = refl;
+      initiate-read-254 = refl;
+      initiate-read-255 = refl;
+      initiate-read-256 = refl;
+      initiate-read-number = refl;
+      closed-after-255 = refl;
+      segment-read-1 = refl;
+      segment-read-3 = refl;
+      segment-read-254 = refl;
+      segment-read-255 = refl;
+      segment-read-more = refl;
+      segment-read-then = refl;
+      closed-after-last = refl;
+      initiate-write = refl;
+      initiate-write-0 = refl;
+      initiate-write-1024 = refl;
+      segment-write-0 = refl;
+      written-0 = refl;
+      segment-write-1 = refl;
+      written-1 = refl;
+      segment-write-3 = refl;
+      written-3 = refl;
+      segment-write-254 = refl;
+      written-254 = refl;
+      segment-write-255 = refl;
+      written-255 = refl;
+      segment-write-second = refl;
+      written-joined = refl;
+      written-number = refl;
+      empty-unmarked = refl;
+      reached-unmarked = refl;
+      ended-by-toggle = (refl, refl);
+      ended-by-len = (refl, refl);
+      open-after-unknown = refl;
+      declared-third = (refl, refl);
+      declared-fourth = (refl, refl);
+      write-4 = refl;
+      other-bits-62 = refl;
+      other-bits-6A = refl;
+      pad-ignored = refl;
+      ended-by-read-initiate = (refl, refl);
+      ended-by-refused-initiate = (refl, refl);
+      ended-by-other-direction = (refl, refl);
+      open-after-read = refl;
+      open-after-write = refl;
+      last-again = (refl, refl);
+      last-again-kept = refl;
+    }

@@ -1,0 +1,9 @@
+pub mod Tables
+pub mod Accepted
+pub mod Numbers
+pub mod Decoding
+pub mod Rows
+pub mod Padding
+pub mod Fitting
+pub mod Neighbours
+pub mod Cases

@@ -1,0 +1,9 @@
+pub mod Faults
+pub mod Frames
+pub mod Checks
+pub mod Answers
+pub mod Commands
+pub mod Decoding
+pub mod Accepted
+pub mod Worked
+pub mod Neighbours
