@@ -1,0 +1,17 @@
+pub mod Unbroken
+pub mod Passing
+pub mod After
+pub mod WriteChains
+pub mod Written
+pub mod Values
+pub mod ReadChains
+pub mod Open
+pub mod Brings
+pub mod Exchanges
+pub mod AnswerFrames
+pub mod Ports
+pub mod Model
+pub mod Determined
+pub mod Meaning
+pub mod Worked
+pub mod Unlawful

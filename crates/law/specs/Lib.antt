@@ -1,0 +1,10 @@
+pub mod Histories
+pub mod WriteChains
+pub mod Held
+pub mod ReadChains
+pub mod Calls
+pub mod ReadAnswers
+pub mod Lawful
+pub mod Ports
+pub mod Worked
+pub mod Unlawful

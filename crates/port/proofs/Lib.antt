@@ -1,0 +1,13 @@
+pub mod ObjectRows
+pub mod ObjectCalls
+pub mod Served
+pub mod ServedBodies
+pub mod SegmentRows
+pub mod SegmentReads
+pub mod SegmentInitiates
+pub mod SegmentWrites
+pub mod SegmentJoins
+pub mod Keeping
+pub mod Taking
+pub mod Granting
+pub mod Running
