@@ -1,4 +1,6 @@
 // One board on standard input: a port of node 1 over a number and a run. Each answer is printed as a line.
+#![tactic(auto)]
+
 use anyhow::anyhow;
 use dictionary::{Access, Address, Dictionary};
 use layers::Pair;

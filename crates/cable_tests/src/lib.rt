@@ -1,4 +1,6 @@
 // Tests of the crates that know the cable: frames written and heard, and lines of a recording.
+#![tactic(auto)]
+
 ghost use Rattle.std.specs.Prelude.{◌≡◌};
 ghost use Rattle.cable_tests.specs.Opcodes.{first_byte};
 ghost use Rattle.wire.specs.Checking.{checked_frame};

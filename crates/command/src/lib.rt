@@ -1,4 +1,6 @@
 // The six commands of a checked frame, the checks that it must pass, and how answers are laid out.
+#![tactic(auto)]
+
 mod answers;
 mod commands;
 mod faults;

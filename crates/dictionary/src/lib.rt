@@ -1,4 +1,6 @@
 // Object dictionaries: addresses, access, shapes and values, and the three calls on them.
+#![tactic(auto)]
+
 ghost use Rattle.std.specs.Prelude.{◌≡◌};
 ghost use Rattle.dictionary.specs.Calls.{look_answer, read_answer, memory_after_read, write_answer, after_write};
 ghost use Rattle.dictionary.specs.Faults.{abort_code};

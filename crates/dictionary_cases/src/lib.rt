@@ -1,4 +1,6 @@
 // Cases for each dictionary, with their expected answers.
+#![tactic(auto)]
+
 #[cfg(test)]
 mod cases;
 #[cfg(test)]

@@ -1,4 +1,6 @@
 // The law over runs of calls on one opened port, and its proof.
+#![tactic(auto)]
+
 ghost use Rattle.law.specs.Lawful.{Satisfiable, Determined, OneMeaning};
 ghost use Rattle.law.specs.Ports.{LawOverRuns};
 ghost use Rattle.law.specs.Unlawful.{WrongPorts};

@@ -1,4 +1,6 @@
 // Dictionaries that are made of other dictionaries.
+#![tactic(auto)]
+
 mod axis;
 mod pair;
 mod shift;

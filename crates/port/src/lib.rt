@@ -1,4 +1,6 @@
 // The port above an object dictionary: chains of segments, the calls open, byte and silence, and the law over runs of them.
+#![tactic(auto)]
+
 mod chains;
 mod guards;
 mod objects;

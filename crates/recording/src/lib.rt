@@ -1,4 +1,6 @@
 // A recording of a cable as text: its lines, and what each line says.
+#![tactic(auto)]
+
 mod gathering;
 mod reading;
 mod spelling;

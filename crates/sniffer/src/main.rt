@@ -1,4 +1,6 @@
 // Reads a recording of a cable from standard input, and prints each body that passed on it.
+#![tactic(auto)]
+
 use recording::{Lines, MOST_BYTES};
 use std::alloc::AllocError;
 use std::io::Read;

@@ -1,4 +1,6 @@
 // Dictionaries over lent tables: numbers, and runs of bytes in one pool.
+#![tactic(auto)]
+
 mod numbers;
 mod runs;
 mod search;

@@ -1,4 +1,6 @@
 // The bytes of a serial cable: marks, byte stuffing, checksums, bodies and frames.
+#![tactic(auto)]
+
 mod checked;
 mod crc;
 mod faults;
