@@ -5,7 +5,7 @@ use Rattle.dictionary.specs.declared.Address.{Address}
 use Rattle.dictionary.specs.declared.Shape.TheVariants.{Number, Run}
 use Rattle.dictionary.specs.Objects.{Bytes, Objects, Entry, no_index, no_subindex, present, look, MayBeRead, TakesLength, Admits, IsNumber}
 use Rattle.dictionary.specs.Checks.{is_run}
-use Rattle.dictionary.proofs.Words.{reads_from, reads_back_lem, takes_from, takes_back, admits_from, admits_back}
+use Rattle.dictionary.proofs.Words.{reads_from, reads_back, takes_from, takes_back, admits_from, admits_back}
 use Rattle.wire.specs.Frames.{Frame}
 use Rattle.command.specs.Frames.{Verb, read_object, initiate_read, write_object, initiate_write, segment_read, segment_write, unknown}
 use Rattle.command.specs.Frames.{verb, len, node_of, address, payload, declared, write_toggle, read_toggle, size, marked, part, room, LenFits}
@@ -82,9 +82,9 @@ module _ (node : ℕ) (d : Objects) (f : Frame) where
   read_back c p NAgainstLen = refl
   read_back c p SumOver = refl
   read_back c p LastShort = refl
-  read_back c p Index = (reads_back_lem here p.2).0
-  read_back c p Subindex = (reads_back_lem here p.2).1
-  read_back c p ReadOfWo = (reads_back_lem here p.2).2
+  read_back c p Index = (reads_back here p.2).0
+  read_back c p Subindex = (reads_back here p.2).1
+  read_back c p ReadOfWo = (reads_back here p.2).2
   read_back c p WriteOfRo = refl
   read_back c p OnRun = (number_back here (payload f) p.3.0 p.3.1).1
   read_back c p OverLength = refl
@@ -101,9 +101,9 @@ module _ (node : ℕ) (d : Objects) (f : Frame) where
   initiate_read_back c p NAgainstLen = refl
   initiate_read_back c p SumOver = refl
   initiate_read_back c p LastShort = refl
-  initiate_read_back c p Index = (reads_back_lem here p.2).0
-  initiate_read_back c p Subindex = (reads_back_lem here p.2).1
-  initiate_read_back c p ReadOfWo = (reads_back_lem here p.2).2
+  initiate_read_back c p Index = (reads_back here p.2).0
+  initiate_read_back c p Subindex = (reads_back here p.2).1
+  initiate_read_back c p ReadOfWo = (reads_back here p.2).2
   initiate_read_back c p WriteOfRo = refl
   initiate_read_back c p OnRun = refl
   initiate_read_back c p OverLength = refl

@@ -20,7 +20,7 @@ unchanged (Some f) made before n = refl
 pub calls_in_words_lem : CallsInWords
 calls_in_words_lem = record {
   reads = readable;
-  reads_back_lem = readable_back;
+  reads_back = readable_back;
   writes = admitted;
   writes_back = admitted_back;
   entries = λ d a v b. either (write_fault (look d a) v) (λ x. look x b) (put d a v) d (look_put d a v b);

@@ -55,12 +55,12 @@ reads_from (present Ro s) h = tt
 reads_from (present Wo s) h = off h.2
 reads_from (present Rw s) h = tt
 
-pub reads_back_lem : (e : Entry) → MayBeRead e → ReadClear e
-reads_back_lem no_index h = absurd h
-reads_back_lem no_subindex h = absurd h
-reads_back_lem (present Ro s) h = (refl, refl, refl)
-reads_back_lem (present Wo s) h = absurd h
-reads_back_lem (present Rw s) h = (refl, refl, refl)
+pub reads_back : (e : Entry) → MayBeRead e → ReadClear e
+reads_back no_index h = absurd h
+reads_back no_subindex h = absurd h
+reads_back (present Ro s) h = (refl, refl, refl)
+reads_back (present Wo s) h = absurd h
+reads_back (present Rw s) h = (refl, refl, refl)
 
 exact : (w n : ℕ) → ltb w n ≡ false → ltb n w ≡ false → n ≡ w
 exact w n p q = omega (arith, ltb-false w n p, ltb-false n w q)
@@ -114,7 +114,7 @@ readable e v room h =
     (reads_from e (c.0, c.1.0, c.1.1.0), ltb-false room (length v) c.1.1.1.0)
 
 pub readable_back : (e : Entry) (v : Bytes) (room : ℕ) → MayBeRead e → length v ≤ room → read_fault e v room ≡ None
-readable_back e v room h l = let c = reads_back_lem e h in clear_back (read_checks e v room) (c.0, (c.1, (c.2, (le-ltb room (length v) l, tt))))
+readable_back e v room h l = let c = reads_back e h in clear_back (read_checks e v room) (c.0, (c.1, (c.2, (le-ltb room (length v) l, tt))))
 
 pub admitted : (e : Entry) (v : Bytes) → write_fault e v ≡ None → Admits e v
 admitted e v h =

@@ -9,7 +9,7 @@ use Rattle.dictionary.specs.Calls.{after_write}
 pub record CallsInWords : Type 0 where
   -- a read is accepted exactly where the object may be read and the memory has room for its value
   pub reads : (e : Entry) (v : Bytes) (room : ℕ) → read_fault e v room ≡ None → MayBeRead e × (length v ≤ room)
-  pub reads_back_lem : (e : Entry) (v : Bytes) (room : ℕ) → MayBeRead e → length v ≤ room → read_fault e v room ≡ None
+  pub reads_back : (e : Entry) (v : Bytes) (room : ℕ) → MayBeRead e → length v ≤ room → read_fault e v room ≡ None
   -- a write is accepted exactly where access, shape, low and high allow the value
   pub writes : (e : Entry) (v : Bytes) → write_fault e v ≡ None → Admits e v
   pub writes_back : (e : Entry) (v : Bytes) → Admits e v → write_fault e v ≡ None

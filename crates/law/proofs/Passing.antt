@@ -86,10 +86,10 @@ module _ (node : ℕ) (d : Objects) (a : Address) (n : ℕ) (before : List Frame
 
   pub segment_from : verb f ≡ segment_write → first (checks segment_write node d chain f) ≡ None → WriteSegment n before f
   segment_from w e =
-      let h = passed node d f segment_write chain e in record { is = w; len_is = h.0; in_turn_lem = h.1.0; fits = h.1.1; within = h.1.2 }
+      let h = passed node d f segment_write chain e in record { is = w; len_is = h.0; in_turn = h.1.0; fits = h.1.1; within = h.1.2 }
 
   pub segment_back : WriteSegment n before f → marked f ≡ false → first (checks segment_write node d chain f) ≡ None
-  segment_back j m = passing node d f segment_write chain (j.len_is, (j.in_turn_lem, j.fits, j.within, λ t. absurd (true≢false (sym t ∙ m))))
+  segment_back j m = passing node d f segment_write chain (j.len_is, (j.in_turn, j.fits, j.within, λ t. absurd (true≢false (sym t ∙ m))))
 
   pub last_from : verb f ≡ segment_write → marked f ≡ true → first (checks segment_write node d chain f) ≡ None → LastSegment n before f × Admits (look d a) brought
   last_from w m e = let h = (passed node d f segment_write chain e).1.3 m in (record { next = segment_from w e; last = m; reached = h.0 }, h.1)
@@ -97,7 +97,7 @@ module _ (node : ℕ) (d : Objects) (a : Address) (n : ℕ) (before : List Frame
   pub last_back : LastSegment n before f → Admits (look d a) brought → first (checks segment_write node d chain f) ≡ None
   last_back l ad =
       let j = l.next in
-      passing node d f segment_write chain (j.len_is, (j.in_turn_lem, j.fits, j.within, λ _. (l.reached, ad)))
+      passing node d f segment_write chain (j.len_is, (j.in_turn, j.fits, j.within, λ _. (l.reached, ad)))
 
 -- segments of a read chain
 
@@ -106,7 +106,7 @@ module _ (node : ℕ) (d : Objects) (v : Bytes) (before : List Frame) (f : Frame
   read_chain = reading v (sent_after (length before)) (turn before)
 
   pub read_segment_from : sent_after (length before) < length v → verb f ≡ segment_read → first (checks segment_read node d read_chain f) ≡ None → ReadSegment v before f
-  read_segment_from r w e = let h = passed node d f segment_read read_chain e in record { is = w; len_is = h.0; in_turn_lem = h.1; remained = r }
+  read_segment_from r w e = let h = passed node d f segment_read read_chain e in record { is = w; len_is = h.0; in_turn = h.1; remained = r }
 
   pub read_segment_back : ReadSegment v before f → first (checks segment_read node d read_chain f) ≡ None
-  read_segment_back j = passing node d f segment_read read_chain (j.len_is, j.in_turn_lem)
+  read_segment_back j = passing node d f segment_read read_chain (j.len_is, j.in_turn)

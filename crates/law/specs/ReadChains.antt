@@ -26,7 +26,7 @@ sent_after k = most * suc k
 pub record ReadSegment (v : Bytes) (before : List Frame) (s : Frame) : Type 0 where
   pub is : verb s ≡ segment_read
   pub len_is : len s ≡ 1
-  pub in_turn_lem : read_toggle s ≡ turn before
+  pub in_turn : read_toggle s ≡ turn before
   pub remained : sent_after (length before) < length v
 
 -- the history hs ends in an unbroken chain that reads v, and these are its segments

@@ -26,7 +26,7 @@ joined (s ∷ before) = joined before ++ part s
 pub record WriteSegment (n : ℕ) (before : List Frame) (s : Frame) : Type 0 where
   pub is : verb s ≡ segment_write
   pub len_is : LenFits segment_write (len s)
-  pub in_turn_lem : write_toggle s ≡ turn before
+  pub in_turn : write_toggle s ≡ turn before
   pub fits : len s ≡ room (size s)
   pub within : length (joined before) + size s ≤ n
 

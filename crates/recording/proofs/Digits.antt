@@ -38,8 +38,8 @@ pairs_append b text bytes h e =
     ∙ ap (λ o. in_front (joined (Some (b / 16)) o) (pairs text)) low
     ∙ ap (λ n. in_front (Some n) (pairs text)) whole ∙ ap (in_front (Some b)) e
 
-pub reads_back_lem : (b : ℕ) → b < 256 → pairs (spelled_byte b) ≡ Some (b ∷ [])
-reads_back_lem b h = pairs_append b [] [] h refl
+pub reads_back : (b : ℕ) → b < 256 → pairs (spelled_byte b) ≡ Some (b ∷ [])
+reads_back b h = pairs_append b [] [] h refl
 
 -- the digits of bytes read back
 pub all_read_back : (bytes : List ℕ) → ((i : ℕ) → get_or bytes i 0 < 256) → pairs (spelled_bytes bytes) ≡ Some bytes

@@ -57,8 +57,8 @@ next_frames stretch s earlier f even e first =
     = resumes s (bodies earlier) body (λ n. first (bodies_none earlier n)) (body_complete f.opcode f.content even) in
     (subst (λ l. Completes l body) (ap (λ l. s ++ (l ++ framed body)) (joined_bodies earlier) ∙ sym e) c, even)
 
-pub reads_back_lem : ReadsBack
-reads_back_lem s op content shut even = (resumes s [] (body_of op content) (λ _. shut) (body_complete op content even), even)
+pub reads_back : ReadsBack
+reads_back s op content shut even = (resumes s [] (body_of op content) (λ _. shut) (body_complete op content even), even)
 
 pub carried : Carried
 carried s op content h = frame_carried s (body_of op content) h.0
@@ -138,7 +138,7 @@ frame_laws_lem =
       one_body = one_body;
       one_frame = one_frame;
       heard_or_damaged = heard_or_damaged;
-      reads_back_lem = reads_back_lem;
+      reads_back = reads_back;
       carried = carried;
       next_frames = next_frames;
       first_lost = first_lost;

@@ -7,7 +7,7 @@ use Rattle.wire.specs.declared.faults.Refusal.TheVariants.{WriteMemory, DataLeng
 use Rattle.wire.specs.Frames.{Bytes, Even, Heard}
 use Rattle.wire.specs.Framing.{Writing, laid, body_of, misfit, written_over, laying, writing, Rewrites}
 use Rattle.wire.specs.Line.{Open, stuff, framed}
-use Rattle.wire.proofs.Frames.{body_length, reads_back_lem, carried}
+use Rattle.wire.proofs.Frames.{body_length, reads_back, carried}
 use Rattle.wire.proofs.Laying.{stuff_append, stuff_length, stuffed_bytes, laid_more}
 
 -- the stuffed parts of a body, one after the other
@@ -114,7 +114,7 @@ module _ (opcode : ℕ) (content memory : List ℕ) where
       let count : ◌≡◌ {A = Result ℕ Refusal} (Ok n) (Ok (length bytes)) = sym taken ∙ gives ∙ ap (λ x. x.result) w in
       let long : n ≡ length bytes = cc in
       let front : take n then ≡ bytes = ap (λ k. take k then) long ∙ ap (take (length bytes)) (leaves ∙ ap (λ x. x.memory) w) ∙ front_written in
-      subst (λ l. Heard (stretch ++ l) opcode content) (sym front) (reads_back_lem stretch opcode content shut (fit content fit-there.0).0)
+      subst (λ l. Heard (stretch ++ l) opcode content) (sym front) (reads_back stretch opcode content shut (fit content fit-there.0).0)
 
   -- a heard frame has at most 255 words, for its Len is a byte
   heard_fit : (stretch : List ℕ) → Bytes stretch → Heard stretch opcode content → misfit content ≡ false

@@ -68,7 +68,7 @@ pub record FrameLaws : Type 0 where
   pub one_body : OneBody
   pub one_frame : OneFrame
   pub heard_or_damaged : (stretch : List ℕ) → HeardOrDamaged stretch
-  pub reads_back_lem : ReadsBack
+  pub reads_back : ReadsBack
   pub carried : Carried
   pub next_frames : (stretch : List ℕ) → NextFrames stretch
   pub first_lost : (stretch : List ℕ) → FirstLost stretch

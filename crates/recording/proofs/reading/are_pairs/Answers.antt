@@ -9,6 +9,6 @@ pub loop-rest-preserved : goal.loop-rest-preserved
 loop-rest-preserved c =
     let rest = c.loop-rest.rest.now in
     let long : 2 ≤ length rest = search rules in
-    let found : is_some c.pair.result ≡ true = c.if-is-none.ensures in
+    let found : is_some c.pair.result ≡ true = c.if-is_none.ensures in
     ap (λ l. is_some (pairs l)) (take_rest rest 2)
     ∙ some_more rest long (sym (ap is_some c.pair.ensures) ∙ found) ∙ c.loop-rest.invariant

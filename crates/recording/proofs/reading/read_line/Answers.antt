@@ -4,12 +4,12 @@ use Rattle.recording.specs.Meaning.{meaning, spelling, telling}
 use Rattle.recording.proofs.Pairs.{other_line}
 use Rattle.recording.proofs.reading.read_line.Goals as goal
 
-pub returns-in-default : goal.returns-in-default
-returns-in-default c =
+pub returns-in_default : goal.returns-in_default
+returns-in_default c =
     let line = c.args.line.now in
     let some : 1 ≤ length line = search rules in
     let no_s : length line < 2 → get_or line 0 0 ≡ 0x53 → ⊥ = search rules in
     record {
-      told = c.read-pairs.ensures.told ∙ ap (λ m. telling m c.args.memory.now) (sym (other_line line some no_s));
-      within = c.read-pairs.ensures.within;
+      told = c.read_pairs.ensures.told ∙ ap (λ m. telling m c.args.memory.now) (sym (other_line line some no_s));
+      within = c.read_pairs.ensures.within;
     }

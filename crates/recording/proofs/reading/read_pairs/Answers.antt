@@ -4,14 +4,14 @@ use Rattle.recording.proofs.Pairs.{long_bad, other_bad, tell_bad, tell_bytes}
 use Rattle.recording.proofs.reading.read_pairs.Goals as goal
 use Rattle.recording.proofs.reading.read_pairs.Goals.{then-text-gt-LONGEST-LINE-via-then-text-gt-LONGEST-LINE, then-text-gt-LONGEST-LINE-via-else-text-gt-LONGEST-LINE+then-not-are-pairs}
 
-pub returns-then-text-gt-LONGEST-LINE : goal.returns-then-text-gt-LONGEST-LINE
-returns-then-text-gt-LONGEST-LINE c =
+pub returns-then-text-gt-LONGEST_LINE : goal.returns-then-text-gt-LONGEST_LINE
+returns-then-text-gt-LONGEST_LINE c =
     let text = c.args.text.now in
     record {
       told = tell_bad text c.args.memory.now
-          (elim c.then-text-gt-LONGEST-LINE.branch [
-            | then-text-gt-LONGEST-LINE-via-then-text-gt-LONGEST-LINE w ↦ long_bad text w.if-text-gt-LONGEST-LINE.true
-            | then-text-gt-LONGEST-LINE-via-else-text-gt-LONGEST-LINE+then-not-are-pairs w ↦ other_bad text (sym w.if-not-are-pairs.ensures)
+          (elim c.then-text-gt-LONGEST_LINE.branch [
+            | then-text-gt-LONGEST-LINE-via-then-text-gt-LONGEST-LINE w ↦ long_bad text w.if-text-gt-LONGEST_LINE.true
+            | then-text-gt-LONGEST-LINE-via-else-text-gt-LONGEST-LINE+then-not-are-pairs w ↦ other_bad text (sym w.if-not-are_pairs.ensures)
           ]);
       within = tt;
     }
@@ -20,6 +20,6 @@ pub returns : goal.returns
 returns c =
     record {
       told = tell_bytes c.args.text.now c.args.memory.now c.decode.new.memory c.decode.result
-          c.if-text-gt-LONGEST-LINE.false (sym c.if-not-are-pairs.ensures) c.decode.ensures.decoded;
+          c.if-text-gt-LONGEST_LINE.false (sym c.if-not-are_pairs.ensures) c.decode.ensures.decoded;
       within = c.decode.ensures.within;
     }

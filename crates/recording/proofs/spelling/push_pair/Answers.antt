@@ -16,7 +16,7 @@ returns c =
     let low : c.from-2.result ≡ get_or upper_digits (c.args.byte % 16) 0 = c.from-2.ensures ∙ ap (λ l. get_or l 1 0) c.spell.ensures.digits in
     let one = c.push.ensures.ascii (subst small (sym high) (digit_small (c.args.byte / 16) (omega arith))) in
     let two = c.push-2.ensures.ascii (subst small (sym low) (digit_small (c.args.byte % 16) (omega arith))) in
-    let first : string_len c.push.new.self ≡ string_len c.args.text.now + length (encode c.from.result) = c.in-ok-push.ensures.len in
+    let first : string_len c.push.new.self ≡ string_len c.args.text.now + length (encode c.from.result) = c.in_ok-push.ensures.len in
     let ok : is_ok c.push-2.result ≡ true = c.push-2.ensures.succeeds (omega (arith, first, ap length one, ap length two, c.push.ensures.capacity, c.requires)) in
     let digits : encode c.from.result ++ encode c.from-2.result ≡ spelled_byte c.args.byte
     = λ i. (one ∙ ap (λ n. n ∷ []) high) i ++ (two ∙ ap (λ n. n ∷ []) low) i in
@@ -24,7 +24,7 @@ returns c =
       ok = ok;
       bytes =
           c.push-2.ensures.bytes ∙ cond-true (is_ok c.push-2.result) (mid ++ encode c.from-2.result) mid ok
-          ∙ pushed_twice old mid (encode c.from.result) (encode c.from-2.result) (spelled_byte c.args.byte) c.in-ok-push.ensures.bytes digits;
+          ∙ pushed_twice old mid (encode c.from.result) (encode c.from-2.result) (spelled_byte c.args.byte) c.in_ok-push.ensures.bytes digits;
       len = c.push-2.ensures.len ∙ cond-true (is_ok c.push-2.result) _ _ ok ∙ omega (arith, first, ap length one, ap length two);
       capacity = omega (arith, c.push.ensures.capacity, c.push-2.ensures.capacity);
     }

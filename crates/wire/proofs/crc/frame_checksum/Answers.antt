@@ -7,5 +7,5 @@ pub returns : goal.returns
 returns c =
     c.close.ensures
     ∙ ap (takes 16 0)
-    (c.take-words.ensures ∙ ap (register (words c.args.«data».now)) (c.take-word-first.ensures ∙ ap (λ w. takes 16 w 0) c.from-le-bytes.ensures))
+    (c.take_words.ensures ∙ ap (register (words c.args.«data».now)) (c.take_word-first.ensures ∙ ap (λ w. takes 16 w 0) c.from_le_bytes.ensures))
     ∙ sym (frame_sum c.args.opcode c.args.words c.args.«data».now)

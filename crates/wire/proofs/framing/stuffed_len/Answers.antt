@@ -5,8 +5,8 @@ use Rattle.wire.proofs.Laying.{stuff_next_length, stuff_length, stuff_other, stu
 use Rattle.wire.proofs.framing.stuffed_len.Goals as goal
 use Rattle.wire.proofs.framing.stuffed_len.Goals.{then-b, else-b}
 
-pub overflow-add-count : goal.overflow-add-count
-overflow-add-count c =
+pub overflow_add-count : goal.overflow_add-count
+overflow_add-count c =
     let far = stuff_length (take c.loop-b.b-index c.args.bytes.now) in
     let few = length-take-le c.loop-b.b-index c.args.bytes.now c.loop-b.auto.b-index-end in
     elim c.if-b.branch [ then-b w ↦ omega (arith, w.count-is, c.loop-b.invariant) | else-b w ↦ omega (arith, w.count-is, c.loop-b.invariant) ]

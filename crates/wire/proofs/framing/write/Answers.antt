@@ -10,9 +10,9 @@ returns c =
     let content = c.args.«data».now in
     let memory = c.args.memory.now in
     let way : ((misfit content ≡ false) × (1030 ≤ length memory)) ⊎ (misfit content ≡ true)
-    = elim c.else-fits-body.either [
-      | inl h ↦ let room = h.1 in inl (not-true _ (sym c.fits-body.ensures ∙ h.0), omega arith)
-      | inr h ↦ inr (not-false _ (sym c.fits-body.ensures ∙ h))
+    = elim c.else-fits_body.either [
+      | inl h ↦ let room = h.1 in inl (not-true _ (sym c.fits_body.ensures ∙ h.0), omega arith)
+      | inr h ↦ inr (not-false _ (sym c.fits_body.ensures ∙ h))
     ] in
     let same = lays op content memory way in
     let result = c.lay.ensures.result ∙ ap (λ w. w.result) same in
@@ -21,5 +21,5 @@ returns c =
       result = result;
       memory = left;
       carried = λ stretch bytes heard room. rewrites op content memory stretch _ _ result left bytes heard room;
-      reads_back_lem = λ stretch n shut taken. reads op content memory stretch _ _ n result left shut taken;
+      reads_back = λ stretch n shut taken. reads op content memory stretch _ _ n result left shut taken;
     }

@@ -13,12 +13,12 @@ returns-in-Err-NoIndex g c =
     let w = by_second d e c.args.at c.args.bytes.now absent _ _ _ c.write.ensures.after c.write-in-Err-NoIndex.ensures.answer c.write-in-Err-NoIndex.ensures.after in
     record { answer = w.answer; after = w.after; first = c.write.ensures.after; second = w.second }
 
-pub returns-in-default : goal.returns-in-default
-returns-in-default g c =
+pub returns-in_default : goal.returns-in_default
+returns-in_default g c =
     let d = g.D.Dictionary.meaning c.args.self.now.first in
     let e = g.E.Dictionary.meaning c.args.self.now.second in
-    let taken : write_answer d c.args.at c.args.bytes.now ≡ Err NoIndex → ⊥ = λ h. (let r = c.in-default.ensures.answer in let z = r ∙ h in search rules) in
-    let w = by_first d e c.args.at c.args.bytes.now taken _ _ c.write.ensures.after c.in-default.ensures.answer in
+    let taken : write_answer d c.args.at c.args.bytes.now ≡ Err NoIndex → ⊥ = λ h. (let r = c.in_default.ensures.answer in let z = r ∙ h in search rules) in
+    let w = by_first d e c.args.at c.args.bytes.now taken _ _ c.write.ensures.after c.in_default.ensures.answer in
     record { answer = w.answer; after = w.after; first = c.write.ensures.after; second = w.second }
 
 pub returns-in-default·2 : goal.returns-in-default·2

@@ -10,8 +10,8 @@ pub returns : goal.returns
 returns c =
     let r = c.args.self.now in
     let m = c.args.memory.now in
-    let e = low_front r.value _ c.to-le-bytes-bytes.ensures r.width _ (omega arith) (counted_width r c.requires) in
+    let e = low_front r.value _ c.to_le_bytes-bytes.ensures r.width _ (omega arith) (counted_width r c.requires) in
     record {
-      answer = c.copy-out.ensures.answer ∙ ap₂ (λ (o : Look) (v : Bytes). read_of (present o.access o.shape) v m) c.look.ensures e;
-      memory = c.copy-out.ensures.memory ∙ ap₂ (λ (o : Look) (v : Bytes). memory_of (present o.access o.shape) v m) c.look.ensures e;
+      answer = c.copy_out.ensures.answer ∙ ap₂ (λ (o : Look) (v : Bytes). read_of (present o.access o.shape) v m) c.look.ensures e;
+      memory = c.copy_out.ensures.memory ∙ ap₂ (λ (o : Look) (v : Bytes). memory_of (present o.access o.shape) v m) c.look.ensures e;
     }

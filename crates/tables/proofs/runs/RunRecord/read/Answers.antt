@@ -11,6 +11,6 @@ returns c =
     let n : c.args.place + r.length - c.args.place ≡ r.length = omega arith in
     let e = ap (λ k. take k (drop c.args.place c.args.pool.now)) n in
     record {
-      answer = c.copy-out.ensures.answer ∙ ap₂ (λ (o : Look) (v : Bytes). read_of (present o.access o.shape) v m) c.look.ensures e;
-      memory = c.copy-out.ensures.memory ∙ ap₂ (λ (o : Look) (v : Bytes). memory_of (present o.access o.shape) v m) c.look.ensures e;
+      answer = c.copy_out.ensures.answer ∙ ap₂ (λ (o : Look) (v : Bytes). read_of (present o.access o.shape) v m) c.look.ensures e;
+      memory = c.copy_out.ensures.memory ∙ ap₂ (λ (o : Look) (v : Bytes). memory_of (present o.access o.shape) v m) c.look.ensures e;
     }
