@@ -114,12 +114,12 @@ pub index_known : (d : Objects) (a : Address) (v : Bytes) → (write_answer d a 
 index_known d a v n = knows (d a.index) a.subindex (λ h. n (ap (λ x. answer (write_fault x v) (tt {0})) h))
 
 -- what a write to a pair leaves and answers, by what the first of the two answered
-pub record Pair-written (d e : Objects) (a : Address) (v : Bytes) (r : Result (Unit {0}) Fault) (d' e' : Objects) : Type 0 where
+pub record PairWritten (d e : Objects) (a : Address) (v : Bytes) (r : Result (Unit {0}) Fault) (d' e' : Objects) : Type 0 where
   pub answer : r ≡ write_answer (paired d e) a v
   pub after : paired d' e' ≡ after_write (paired d e) a v
   pub second : e' ≡ second_after d e a v
 
-pub by_second : (d e : Objects) (a : Address) (v : Bytes) → write_answer d a v ≡ Err NoIndex → (r : Result (Unit {0}) Fault) (d' e' : Objects) → d' ≡ after_write d a v → r ≡ write_answer e a v → e' ≡ after_write e a v → Pair-written d e a v r d' e'
+pub by_second : (d e : Objects) (a : Address) (v : Bytes) → write_answer d a v ≡ Err NoIndex → (r : Result (Unit {0}) Fault) (d' e' : Objects) → d' ≡ after_write d a v → r ≡ write_answer e a v → e' ≡ after_write e a v → PairWritten d e a v r d' e'
 by_second d e a v refused r d' e' p q s =
     let none = index_unknown d a v refused in
     record {
@@ -128,7 +128,7 @@ by_second d e a v refused r d' e' p q s =
       second = s ∙ sym (second_is d e a v none);
     }
 
-pub by_first : (d e : Objects) (a : Address) (v : Bytes) → (write_answer d a v ≡ Err NoIndex → ⊥) → (r : Result (Unit {0}) Fault) (d' : Objects) → d' ≡ after_write d a v → r ≡ write_answer d a v → Pair-written d e a v r d' e
+pub by_first : (d e : Objects) (a : Address) (v : Bytes) → (write_answer d a v ≡ Err NoIndex → ⊥) → (r : Result (Unit {0}) Fault) (d' : Objects) → d' ≡ after_write d a v → r ≡ write_answer d a v → PairWritten d e a v r d' e
 by_first d e a v taken r d' p q =
     let k = index_known d a v taken in
     record {
@@ -171,12 +171,12 @@ module _ (axis : ℕ) (d : Objects) (a : Address) (inside : of_axis axis a.index
   left_below v (Some f) = refl
 
 -- what a write to a shift leaves and answers, where the address is shown
-pub record Shift-written (axis : ℕ) (d : Objects) (a : Address) (v : Bytes) (r : Result (Unit {0}) Fault) (d' : Objects) : Type 0 where
+pub record ShiftWritten (axis : ℕ) (d : Objects) (a : Address) (v : Bytes) (r : Result (Unit {0}) Fault) (d' : Objects) : Type 0 where
   pub answer : r ≡ write_answer (shifted axis d) a v
   pub after : shifted axis d' ≡ after_write (shifted axis d) a v
   pub below : d' ≡ below_after axis d a v
 
-pub by_below : (axis : ℕ) (d : Objects) (a b : Address) (v : Bytes) → Some b ≡ unshifted axis a → (r : Result (Unit {0}) Fault) (d' : Objects) → r ≡ write_answer d b v → d' ≡ after_write d b v → Shift-written axis d a v r d'
+pub by_below : (axis : ℕ) (d : Objects) (a b : Address) (v : Bytes) → Some b ≡ unshifted axis a → (r : Result (Unit {0}) Fault) (d' : Objects) → r ≡ write_answer d b v → d' ≡ after_write d b v → ShiftWritten axis d a v r d'
 by_below axis d a b v s r d' p q =
     ⊎_elim
     (λ (h : of_axis axis a.index ≡ true).

@@ -19,7 +19,7 @@ use Rattle.port.specs.declared.requests.Request.TheVariants.{Byte, Silence}
 use Rattle.port.specs.declared.states.State.{State}
 use Rattle.port.specs.declared.states.State.TheVariants.{Closed, Reading, Writing}
 use Rattle.port.specs.Ports.{answer_of, Board, board, Called, call_result, received, served, byte_of}
-use Rattle.port.specs.Runs.{LedToPort, brought_by, Byte-keeps-law, SilenceKeepsLaw, call_of}
+use Rattle.port.specs.Runs.{LedToPort, brought_by, ByteKeepsLaw, SilenceKeepsLaw, call_of}
 use Rattle.port.specs.Serving.{body_done}
 use Rattle.port.specs.Chains.{chain_of, declared_by, held_by}
 use Rattle.port.proofs.Keeping.{Enough, Short, which, short_call, enough_call, short_refusal, enough_refusal}
@@ -59,7 +59,7 @@ cut_front : (n : ℕ) (w : Bytes) → take (n - 0) w ++ drop (n - 0) w ≡ w
 cut_front n w = take-append-drop (n - 0) w
 
 module _ (p p1 : Port) (d d1 : Objects) (frame staging answer : Bytes) (f m a : ℕ) (hf : f ≤ length frame) (hm : m ≤ length staging) (ha : a ≤ length answer) (f1 m1 a1 : Bytes) (x : ℕ) (r : Result (Option Reply) Refusal)
-    (lawful : Byte-keeps-law p p1 d d1 (take (f - 0) frame) (take (m - 0) staging) (take (a - 0) answer) f1 m1 a1 x r)
+    (lawful : ByteKeepsLaw p p1 d d1 (take (f - 0) frame) (take (m - 0) staging) (take (a - 0) answer) f1 m1 a1 x r)
     (steps : call_result r (board p1 d1 f1 m1 a1) ≡ byte_of p.node (board p d (take (f - 0) frame) (take (m - 0) staging) (take (a - 0) answer)) x)
     (lf : length f1 ≡ length (take (f - 0) frame)) (lm : length m1 ≡ length (take (m - 0) staging)) where
   abbrev b : Board

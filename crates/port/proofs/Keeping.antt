@@ -28,7 +28,7 @@ use Rattle.port.specs.declared.states.State.{State}
 use Rattle.port.specs.declared.states.State.TheVariants.{Closed}
 use Rattle.port.specs.Chains.{chain_of}
 use Rattle.port.specs.Ports.{refusal_number, answer_of, Board, board, Called, call_result, refused_call, received, replied, served, taken_call, byte_of}
-use Rattle.port.specs.Runs.{LedToPort, brought_by, Byte-keeps-law}
+use Rattle.port.specs.Runs.{LedToPort, brought_by, ByteKeepsLaw}
 use Rattle.port.specs.Serving.{Done, frame_done, body_done}
 
 -- Opening and silence.
@@ -196,7 +196,7 @@ module _ (p p1 : Port) (d d1 : Objects) (frame staging answers frame1 staging1 a
       let z : ◌≡◌ {A = ℕ} 0 1 = cc in
       omega arith
 
-  pub keeps : Byte-keeps-law p p1 d d1 frame staging answers frame1 staging1 answers1 b r
+  pub keeps : ByteKeepsLaw p p1 d d1 frame staging answers frame1 staging1 answers1 b r
   keeps =
       record {
         taken = λ d0 events none led. elim (which (length frame) (length staging) (length answers)) [

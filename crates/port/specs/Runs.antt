@@ -39,7 +39,7 @@ SilenceKeepsLaw p p1 =
     → LedToPort d0 (event calls.silence nothing ∷ events) p1 d frame staging
 
 -- Whatever events led to p, with this byte call they lead to p1.
-pub record Byte-keeps-law (p p1 : Port) (d d1 : Objects) (frame staging answer frame1 staging1 answer1 : Bytes) (b : ℕ) (r : Result (Option Reply) Refusal) : Type 0 where
+pub record ByteKeepsLaw (p p1 : Port) (d d1 : Objects) (frame staging answer frame1 staging1 answer1 : Bytes) (b : ℕ) (r : Result (Option Reply) Refusal) : Type 0 where
   -- a taken call: of the contents of the memories that it is lent
   pub taken : (d0 : Objects) (events : List Event) → refusal (length frame) (length staging) (length answer) ≡ None
       → LedToPort d0 events p d frame staging
@@ -57,7 +57,7 @@ call_of (Byte b f m a) frame staging answer = calls.byte b (min f frame) (min m 
 call_of Silence frame staging answer = calls.silence
 
 -- whatever events led to p, with this call they lead to p1
-pub record Call-keeps-law (p p1 : Port) (d d1 : Objects) (frame frame1 staging staging1 : Bytes) (answer : ℕ) (answer1 : Bytes) (q : Request) (r : Result (Option Reply) Refusal) : Type 0 where
+pub record CallKeepsLaw (p p1 : Port) (d d1 : Objects) (frame frame1 staging staging1 : Bytes) (answer : ℕ) (answer1 : Bytes) (q : Request) (r : Result (Option Reply) Refusal) : Type 0 where
   pub leads : (d0 : Objects) (events : List Event) → LedToPort d0 events p d frame staging
       → LedToPort d0 (event (call_of q (length frame) (length staging) answer) (brought_by r answer1) ∷ events) p1 d1 frame1 staging1
   pub own : p1.node ≡ p.node

@@ -15,7 +15,7 @@ use dictionary::{Access, Address, Dictionary, Shape};
 
 // The value of a number, which the dictionary lays into its place in the answer.
 pub(crate) fn read_object<D: Dictionary>(dict: &D, at: Address) -> Result<Answer, Fault>
-    ensures { EachFrame (ReadObject at) (λ node c f. shown_answer result ≡ by_table node (meaning dict.now) c f (accepted_data (brings_back (verb f) (meaning dict.now) c f))) }
+    ensures { EachFrame (ReadObject at) (λ node c f. shown_answer result ≡ by_table node (D.Dictionary.meaning dict.now) c f (accepted_data (brings_back (verb f) (D.Dictionary.meaning dict.now) c f))) }
 {
     readable_number(dict, at)?;
     Ok(Answer::value(dict, at)?)
@@ -23,7 +23,7 @@ pub(crate) fn read_object<D: Dictionary>(dict: &D, at: Address) -> Result<Answer
 
 // Whether the object at an address is a number that may be read.
 fn readable_number<D: Dictionary>(dict: &D, at: Address) -> Result<(), dictionary::Fault>
-    ensures { EachFrame (ReadObject at) (λ node c f. of_dictionary result ≡ by_table node (meaning dict.now) c f tt) }
+    ensures { EachFrame (ReadObject at) (λ node c f. of_dictionary result ≡ by_table node (D.Dictionary.meaning dict.now) c f tt) }
 {
     let found = dict.look(at)?;
     if let Access::Wo = found.access {
@@ -41,8 +41,8 @@ pub(crate) fn write_object<D: Dictionary>(
     at: Address,
     number: u32,
 ) -> Result<Answer, Fault>
-    ensures answer { EachFrame (WriteObject at number) (λ node c f. shown_answer result ≡ by_table node (meaning dict.old) c f (accepted_data (brings_back (verb f) (meaning dict.old) c f))) }
-    ensures after { EachFrame (WriteObject at number) (λ node c f. meaning dict.new ≡ apply (meaning dict.old) (write_of node (meaning dict.old) c f)) }
+    ensures answer { EachFrame (WriteObject at number) (λ node c f. shown_answer result ≡ by_table node (D.Dictionary.meaning dict.old) c f (accepted_data (brings_back (verb f) (D.Dictionary.meaning dict.old) c f))) }
+    ensures after { EachFrame (WriteObject at number) (λ node c f. D.Dictionary.meaning dict.new ≡ apply (D.Dictionary.meaning dict.old) (write_of node (D.Dictionary.meaning dict.old) c f)) }
 {
     write_number(dict, at, number)?;
     Ok(Answer::accepted())
@@ -54,8 +54,8 @@ fn write_number<D: Dictionary>(
     at: Address,
     number: u32,
 ) -> Result<(), dictionary::Fault>
-    ensures answer { EachFrame (WriteObject at number) (λ node c f. of_dictionary result ≡ by_table node (meaning dict.old) c f tt) }
-    ensures after { EachFrame (WriteObject at number) (λ node c f. meaning dict.new ≡ apply (meaning dict.old) (write_of node (meaning dict.old) c f)) }
+    ensures answer { EachFrame (WriteObject at number) (λ node c f. of_dictionary result ≡ by_table node (D.Dictionary.meaning dict.old) c f tt) }
+    ensures after { EachFrame (WriteObject at number) (λ node c f. D.Dictionary.meaning dict.new ≡ apply (D.Dictionary.meaning dict.old) (write_of node (D.Dictionary.meaning dict.old) c f)) }
 {
     let found = dict.look(at)?;
     if let Access::Ro = found.access {
@@ -73,7 +73,7 @@ pub(crate) fn takes_length<D: Dictionary>(
     at: Address,
     declared: u32,
 ) -> Result<(), dictionary::Fault>
-    ensures answer { EachFrame (InitiateSegmentedWrite at declared) (λ node c f. of_dictionary result ≡ by_table node (meaning dict.now) c f tt) }
+    ensures answer { EachFrame (InitiateSegmentedWrite at declared) (λ node c f. of_dictionary result ≡ by_table node (D.Dictionary.meaning dict.now) c f tt) }
     ensures small { OnOk result (declared ≤ 4096) }
 {
     let found = dict.look(at)?;
@@ -105,8 +105,8 @@ pub(crate) fn stage<D: Dictionary>(
     staging: &mut [u8],
 ) -> Result<usize, dictionary::Fault>
     requires { 4096 ≤ length staging.old }
-    ensures answer { EachFrame (InitiateSegmentedRead at) (λ node c f. of_dictionary result ≡ by_table node (meaning dict.now) c f (length (value (meaning dict.now) at))) }
-    ensures staging { EachFrame (InitiateSegmentedRead at) (λ node c f. staging.new ≡ by_fault (fault node (meaning dict.now) c f) (λ _. staging.old) (laid (value (meaning dict.now) at) staging.old)) }
+    ensures answer { EachFrame (InitiateSegmentedRead at) (λ node c f. of_dictionary result ≡ by_table node (D.Dictionary.meaning dict.now) c f (length (value (D.Dictionary.meaning dict.now) at))) }
+    ensures staging { EachFrame (InitiateSegmentedRead at) (λ node c f. staging.new ≡ by_fault (fault node (D.Dictionary.meaning dict.now) c f) (λ _. staging.old) (laid (value (D.Dictionary.meaning dict.now) at) staging.old)) }
     ensures small { IfOk result (λ n. n ≤ 4096) }
 {
     dict.read(at, staging)

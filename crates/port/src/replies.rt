@@ -36,7 +36,7 @@ pub(crate) fn reply<D: Dictionary>(
     memory: &mut [u8],
 ) -> Reply
     requires { (4096 ≤ length staging.old) × (538 ≤ length memory.old) }
-    ensures { Replies (body_done node (meaning dict.old) (chain_of chain.old.state staging.old) staging.old (checked_frame body.now)) result memory.old (chain_of chain.new.state staging.new) (meaning dict.new) staging.new memory.new }
+    ensures { Replies (body_done node (D.Dictionary.meaning dict.old) (chain_of chain.old.state staging.old) staging.old (checked_frame body.now)) result memory.old (chain_of chain.new.state staging.new) (D.Dictionary.meaning dict.new) staging.new memory.new }
 {
     match serve(chain, dict, node, body, staging) {
         Ok(answer) => Reply {

@@ -1,6 +1,6 @@
 // Whole runs of calls on one port.
 ghost use Rattle.std.specs.Prelude.{◌≡◌, length};
-ghost use Rattle.port.specs.Runs.{Call-keeps-law, StepKeepsLaw, Ran};
+ghost use Rattle.port.specs.Runs.{CallKeepsLaw, StepKeepsLaw, Ran};
 
 use crate::ports::{OpeningRefusal, Port, Refusal, Reply};
 use crate::requests::{Request, Step};
@@ -15,7 +15,7 @@ fn call<D: Dictionary>(
     staging: &mut [u8],
     answer: &mut [u8],
 ) -> Result<Option<Reply>, Refusal>
-    ensures { Call-keeps-law port.old port.new (meaning dict.old) (meaning dict.new) frame.old frame.new staging.old staging.new (length answer.old) answer.new request result }
+    ensures { CallKeepsLaw port.old port.new (D.Dictionary.meaning dict.old) (D.Dictionary.meaning dict.new) frame.old frame.new staging.old staging.new (length answer.old) answer.new request result }
 {
     match request {
         Request::Byte {
@@ -50,7 +50,7 @@ fn make<D: Dictionary>(
     frame: &mut [u8],
     staging: &mut [u8],
 )
-    ensures { StepKeepsLaw port.old port.new (meaning dict.old) (meaning dict.new) frame.old frame.new staging.old staging.new step.old step.new }
+    ensures { StepKeepsLaw port.old port.new (D.Dictionary.meaning dict.old) (D.Dictionary.meaning dict.new) frame.old frame.new staging.old staging.new step.old step.new }
 {
     let request = step.request;
     let told = call(port, dict, request, frame, staging, &mut step.answer);
@@ -65,7 +65,7 @@ pub fn run<D: Dictionary>(
     frame: &mut [u8],
     staging: &mut [u8],
 ) -> Result<(), OpeningRefusal>
-    ensures { Ran result node (meaning dict.old) (meaning dict.new) (length frame.old) (length staging.old) steps.old steps.new }
+    ensures { Ran result node (D.Dictionary.meaning dict.old) (D.Dictionary.meaning dict.new) (length frame.old) (length staging.old) steps.old steps.new }
 {
     let mut port = Port::open(node)?;
     for step in steps.iter_mut() {

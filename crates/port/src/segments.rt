@@ -26,7 +26,7 @@ pub(crate) fn initiate_read<D: Dictionary>(
     staging: &mut [u8],
 ) -> Result<Answer, Fault>
     requires { (4096 ≤ length staging.old) × (guard.old.kept ≡ false) }
-    ensures leaves { Carried (InitiateSegmentedRead at) (meaning dict.now) (chain_of guard.old.chain.now.state staging.old) staging.old (shown_answer result) (left guard.new.kept guard.new.chain.now.state staging.new) (meaning dict.now) staging.new }
+    ensures leaves { Carried (InitiateSegmentedRead at) (D.Dictionary.meaning dict.now) (chain_of guard.old.chain.now.state staging.old) staging.old (shown_answer result) (left guard.new.kept guard.new.chain.now.state staging.new) (D.Dictionary.meaning dict.now) staging.new }
     ensures same { guard.new.chain.ghost_name ≡ guard.old.chain.ghost_name }
 {
     let len = stage(dict, at, staging)?;
@@ -51,7 +51,7 @@ pub(crate) fn initiate_write<D: Dictionary>(
     declared: u32,
 ) -> Result<Answer, Fault>
     requires { guard.old.kept ≡ false }
-    ensures leaves { (m : Bytes) → Carried (InitiateSegmentedWrite at declared) (meaning dict.now) (chain_of guard.old.chain.now.state m) m (shown_answer result) (left guard.new.kept guard.new.chain.now.state m) (meaning dict.now) m }
+    ensures leaves { (m : Bytes) → Carried (InitiateSegmentedWrite at declared) (D.Dictionary.meaning dict.now) (chain_of guard.old.chain.now.state m) m (shown_answer result) (left guard.new.kept guard.new.chain.now.state m) (D.Dictionary.meaning dict.now) m }
     ensures same { guard.new.chain.ghost_name ≡ guard.old.chain.ghost_name }
 {
     takes_length(dict, at, declared)?;
@@ -186,7 +186,7 @@ pub(crate) fn segment_write<D: Dictionary>(
     staging: &mut [u8],
 ) -> Result<Answer, Fault>
     requires { (4096 ≤ length staging.old) × (guard.old.kept ≡ false) }
-    ensures leaves { Carried (SegmentWrite n toggle last part.entry) (meaning dict.old) (chain_of guard.old.chain.now.state staging.old) staging.old (shown_answer result) (left guard.new.kept guard.new.chain.now.state staging.new) (meaning dict.new) staging.new }
+    ensures leaves { Carried (SegmentWrite n toggle last part.entry) (D.Dictionary.meaning dict.old) (chain_of guard.old.chain.now.state staging.old) staging.old (shown_answer result) (left guard.new.kept guard.new.chain.now.state staging.new) (D.Dictionary.meaning dict.new) staging.new }
     ensures same { guard.new.chain.ghost_name ≡ guard.old.chain.ghost_name }
 {
     let Joining {

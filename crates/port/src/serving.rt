@@ -21,7 +21,7 @@ pub(crate) fn carry_out<D: Dictionary>(
     staging: &mut [u8],
 ) -> Result<Answer, Fault>
     requires { (4096 ≤ length staging.old) × (guard.old.kept ≡ leaves_chain command) }
-    ensures leaves { Carried command.entry (meaning dict.old) (chain_of guard.old.chain.now.state staging.old) staging.old (shown_answer result) (left guard.new.kept guard.new.chain.now.state staging.new) (meaning dict.new) staging.new }
+    ensures leaves { Carried command.entry (D.Dictionary.meaning dict.old) (chain_of guard.old.chain.now.state staging.old) staging.old (shown_answer result) (left guard.new.kept guard.new.chain.now.state staging.new) (D.Dictionary.meaning dict.new) staging.new }
     ensures same { guard.new.chain.ghost_name ≡ guard.old.chain.ghost_name }
 {
     match command {
@@ -57,7 +57,7 @@ pub(crate) fn serve<D: Dictionary>(
     staging: &mut [u8],
 ) -> Result<Answer, Fault>
     requires { 4096 ≤ length staging.old }
-    ensures { Leaves (body_done node (meaning dict.old) (chain_of chain.old.state staging.old) staging.old (checked_frame body.now)) (shown_answer result) (chain_of chain.new.state staging.new) (meaning dict.new) staging.new }
+    ensures { Leaves (body_done node (D.Dictionary.meaning dict.old) (chain_of chain.old.state staging.old) staging.old (checked_frame body.now)) (shown_answer result) (chain_of chain.new.state staging.new) (D.Dictionary.meaning dict.new) staging.new }
 {
     let frame = Body::new(body).check()?;
     let mut guard = Guard {

@@ -31,7 +31,7 @@ pub trait Addressed {
 
 // Of the first 256 records, the first that counts and has the address.
 pub fn find<R: Addressed>(records: &[R], at: Address, pool: usize) -> Result<Found, Fault>
-    ensures meant { MatchResult result (Located key pool (front records.now) at) (Absent key pool (front records.now) at) }
+    ensures meant { MatchResult result (Located R.Addressed.key pool (front records.now) at) (Absent R.Addressed.key pool (front records.now) at) }
     ensures inside { IfOk result (λ f. f.position < length records.now) }
 {
     let front = &records[0..records.len().min(LIMIT)];

@@ -72,7 +72,7 @@ impl Answer {
 
     // The value of an object of at most four bytes, in its own place behind the code.
     pub fn value<D: Dictionary>(dict: &D, at: Address) -> Result<Answer, dictionary::Fault>
-        ensures { shown result ≡ value_answer (meaning dict.now) at }
+        ensures { shown result ≡ value_answer (D.Dictionary.meaning dict.now) at }
     {
         let mut bytes = [0; 264];
         fill(dict, at, &mut bytes)?;
@@ -153,8 +153,8 @@ fn control(toggle: bool, last: bool) -> u8
 // Lends the four bytes behind the code to the dictionary, which fills the value's own place; the bytes around it stay.
 fn fill<D: Dictionary>(dict: &D, at: Address, bytes: &mut [u8]) -> Result<usize, dictionary::Fault>
     requires { 8 ≤ length bytes.old }
-    ensures answer { result ≡ read_answer (meaning dict.now) at (take 4 (drop 4 bytes.old)) }
-    ensures bytes { bytes.new ≡ take 4 bytes.old ++ (memory_after_read (meaning dict.now) at (take 4 (drop 4 bytes.old)) ++ drop 8 bytes.old) }
+    ensures answer { result ≡ read_answer (D.Dictionary.meaning dict.now) at (take 4 (drop 4 bytes.old)) }
+    ensures bytes { bytes.new ≡ take 4 bytes.old ++ (memory_after_read (D.Dictionary.meaning dict.now) at (take 4 (drop 4 bytes.old)) ++ drop 8 bytes.old) }
 {
     dict.read(at, &mut bytes[4..8])
 }

@@ -3,7 +3,7 @@ ghost use Rattle.std.specs.Prelude.{◌≡◌, ◌≤◌, length, take, Err};
 ghost use Rattle.wire.specs.declared.receiving.Phase.TheVariants.{Hunting};
 ghost use Rattle.wire.specs.Receiving.{Took, step};
 ghost use Rattle.port.specs.Ports.{opening_number, refusal_number, board, call_result, byte_of, own_node, shown_port, opened_port};
-ghost use Rattle.port.specs.Runs.{OpeningKeepsLaw, SilenceKeepsLaw, Byte-keeps-law};
+ghost use Rattle.port.specs.Runs.{OpeningKeepsLaw, SilenceKeepsLaw, ByteKeepsLaw};
 
 use crate::chains::Chain;
 use crate::ports::{OpeningRefusal, Port, Refusal, Reply};
@@ -91,10 +91,10 @@ impl Port {
         staging: &mut [u8],
         answer: &mut [u8],
     ) -> Result<Option<Reply>, Refusal>
-        ensures steps { call_result result (board self.new (meaning dict.new) frame.new staging.new answer.new) ≡ byte_of self.old.node (board self.old (meaning dict.old) frame.old staging.old answer.old) byte }
+        ensures steps { call_result result (board self.new (D.Dictionary.meaning dict.new) frame.new staging.new answer.new) ≡ byte_of self.old.node (board self.old (D.Dictionary.meaning dict.old) frame.old staging.old answer.old) byte }
         ensures node { self.new.node ≡ self.old.node }
         ensures still { (e : Refusal) → result ≡ Err e → self.new ≡ self.old }
-        ensures lawful { Byte-keeps-law self.old self.new (meaning dict.old) (meaning dict.new) frame.old staging.old answer.old frame.new staging.new answer.new byte result }
+        ensures lawful { ByteKeepsLaw self.old self.new (D.Dictionary.meaning dict.old) (D.Dictionary.meaning dict.new) frame.old staging.old answer.old frame.new staging.new answer.new byte result }
     {
         self.take(dict, byte, frame, staging, answer)
     }
@@ -107,7 +107,7 @@ impl Port {
         staging: &mut [u8],
         answer: &mut [u8],
     ) -> Result<Option<Reply>, Refusal>
-        ensures steps { call_result result (board self.new (meaning dict.new) frame.new staging.new answer.new) ≡ byte_of self.old.node (board self.old (meaning dict.old) frame.old staging.old answer.old) byte }
+        ensures steps { call_result result (board self.new (D.Dictionary.meaning dict.new) frame.new staging.new answer.new) ≡ byte_of self.old.node (board self.old (D.Dictionary.meaning dict.old) frame.old staging.old answer.old) byte }
         ensures node { self.new.node ≡ self.old.node }
         ensures still { (e : Refusal) → result ≡ Err e → self.new ≡ self.old }
     {

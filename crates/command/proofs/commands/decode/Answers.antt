@@ -31,34 +31,34 @@ pub number-requires : goal.number-requires
 number-requires c =
     let f = frame_of c.args.frame in
     let o = opens f _ 0x68 4 c.opcode.ensures c.in-104.is refl refl in
-    let h = c.in-ok-at-3.ensures in
+    let h = c.in_ok-at-in-104.ensures in
     four_behind f _ h.2 (passed_len c.args.node f 4 o.0 o.1 h.0)
 
 pub number-requires-in-105 : goal.number-requires-in-105
 number-requires-in-105 c =
     let f = frame_of c.args.frame in
     let o = opens f _ 0x69 4 c.opcode.ensures c.in-105.is refl refl in
-    let h = c.in-ok-at-4.ensures in
+    let h = c.in_ok-at-in-105.ensures in
     four_behind f _ h.2 (passed_len c.args.node f 4 o.0 o.1 h.0)
 
-pub segment-read-requires : goal.segment-read-requires
-segment-read-requires c = named (frame_of c.args.frame) _ 0x62 c.opcode.ensures c.in-98.is
+pub segment_read-requires : goal.segment_read-requires
+segment_read-requires c = named (frame_of c.args.frame) _ 0x62 c.opcode.ensures c.in-98.is
 
-pub segment-write-requires : goal.segment-write-requires
-segment-write-requires c = named (frame_of c.args.frame) _ 0x6A c.opcode.ensures c.in-106.is
+pub segment_write-requires : goal.segment_write-requires
+segment_write-requires c = named (frame_of c.args.frame) _ 0x6A c.opcode.ensures c.in-106.is
 
-pub returns-in-ok-at : goal.returns-in-ok-at
-returns-in-ok-at c =
-    let h = c.in-ok-at.ensures in (h.0, (named (frame_of c.args.frame) _ 0x60 c.opcode.ensures c.in-96.is, h.1))
+pub returns-in_ok-at-in-96 : goal.returns-in_ok-at-in-96
+returns-in_ok-at-in-96 c =
+    let h = c.in_ok-at-in-96.ensures in (h.0, (named (frame_of c.args.frame) _ 0x60 c.opcode.ensures c.in-96.is, h.1))
 
-pub returns-in-ok-at-2 : goal.returns-in-ok-at-2
-returns-in-ok-at-2 c =
-    let h = c.in-ok-at-2.ensures in (h.0, (named (frame_of c.args.frame) _ 0x81 c.opcode.ensures c.in-129.is, h.1))
+pub returns-in_ok-at-in-129 : goal.returns-in_ok-at-in-129
+returns-in_ok-at-in-129 c =
+    let h = c.in_ok-at-in-129.ensures in (h.0, (named (frame_of c.args.frame) _ 0x81 c.opcode.ensures c.in-129.is, h.1))
 
-pub returns-in-ok-at-3 : goal.returns-in-ok-at-3
-returns-in-ok-at-3 c =
+pub returns-in_ok-at-in-104 : goal.returns-in_ok-at-in-104
+returns-in_ok-at-in-104 c =
     let f = frame_of c.args.frame in
-    let h = c.in-ok-at-3.ensures in (
+    let h = c.in_ok-at-in-104.ensures in (
       h.0,
       (
         named f _ 0x68 c.opcode.ensures c.in-104.is,
@@ -68,20 +68,20 @@ returns-in-ok-at-3 c =
       ),
     )
 
-pub returns-in-ok-at-4 : goal.returns-in-ok-at-4
-returns-in-ok-at-4 c =
+pub returns-in_ok-at-in-105 : goal.returns-in_ok-at-in-105
+returns-in_ok-at-in-105 c =
     let f = frame_of c.args.frame in
-    let h = c.in-ok-at-4.ensures in
+    let h = c.in_ok-at-in-105.ensures in
     (h.0, (named f _ 0x69 c.opcode.ensures c.in-105.is, h.1, declared_is f _ _ h.2 c.number-in-105.ensures.value))
 
 pub returns-in-98 : goal.returns-in-98
-returns-in-98 c = c.segment-read.ensures c.args.node
+returns-in-98 c = c.segment_read.ensures c.args.node
 
 pub returns-in-106 : goal.returns-in-106
-returns-in-106 c = c.segment-write.ensures c.args.node
+returns-in-106 c = c.segment_write.ensures c.args.node
 
-pub returns-in-default : goal.returns-in-default
+pub returns-in_default : goal.returns-in_default
 unfolding verb
-returns-in-default c =
+returns-in_default c =
     let u : verb (frame_of c.args.frame) ≡ unknown = search rules in
     unknown_refused c.args.node (frame_of c.args.frame) u

@@ -13,17 +13,17 @@ read_of : (bytes body : List ℕ) (r : Result code.Frame wire.Fault) (node : ℕ
     → Reads node (shown r) told → Reads node (checked_frame body) told
 read_of bytes body r node told e h k = subst (λ x. Reads node (checked_frame x) told) e (subst (λ x. Reads node x told) (computed bytes r h) k)
 
-pub returns-in-err-frame : goal.returns-in-err-frame
-returns-in-err-frame c =
-    read_of c.new.result.bytes.now c.args.body.now (Err c.in-err-frame.field-0.0) c.args.node c.from-residual.result (search rules)
-    c.in-err-frame.ensures (search rules)
+pub returns-in_err-frame : goal.returns-in_err-frame
+returns-in_err-frame c =
+    read_of c.new.result.bytes.now c.args.body.now (Err c.in_err-frame.field-0.0) c.args.node c.from_residual.result (search rules)
+    c.in_err-frame.ensures (search rules)
 
-pub returns-in-err-decode : goal.returns-in-err-decode
-returns-in-err-decode c =
-    read_of c.new.result.bytes.now c.args.body.now (Ok c.in-ok-frame.frame) c.args.node c.from-residual-in-err-decode.result
-    (search rules) c.in-ok-frame.ensures (search rules)
+pub returns-in_err-decode : goal.returns-in_err-decode
+returns-in_err-decode c =
+    read_of c.new.result.bytes.now c.args.body.now (Ok c.in_ok-frame.frame) c.args.node c.from_residual-in_err-decode.result
+    (search rules) c.in_ok-frame.ensures (search rules)
 
 pub returns : goal.returns
 returns c =
-    read_of c.new.result.bytes.now c.args.body.now (Ok c.in-ok-frame.frame) c.args.node (Ok c.in-ok-decode.field-0)
-    (search rules) c.in-ok-frame.ensures c.in-ok-decode.ensures
+    read_of c.new.result.bytes.now c.args.body.now (Ok c.in_ok-frame.frame) c.args.node (Ok c.in_ok-decode.field-0)
+    (search rules) c.in_ok-frame.ensures c.in_ok-decode.ensures

@@ -14,5 +14,5 @@ pub returns : goal.returns
 returns c node =
     let f = frame_of c.args.frame.now in (
       segment_read_passes node f c.requires (eq-eqb _ _ (sym (words_are f _ c.data-data.ensures) ∙ c.if-data-ne1.false)),
-      (c.requires, ap bit c.toggle-in.ensures ∙ read_toggle_is f _ c.data-data.ensures),
+      (c.requires, ap bit c.toggle_in.ensures ∙ read_toggle_is f _ c.data-data.ensures),
     )

@@ -2,7 +2,7 @@
 use Rattle.std.proofs.Common.{◌≡◌, sym, arith}
 use Rattle.recording.proofs.Pairs.{long_bad, other_bad, tell_bad, tell_bytes}
 use Rattle.recording.proofs.reading.read_pairs.Goals as goal
-use Rattle.recording.proofs.reading.read_pairs.Goals.{then-text-gt-LONGEST-LINE-via-then-text-gt-LONGEST-LINE, then-text-gt-LONGEST-LINE-via-else-text-gt-LONGEST-LINE+then-not-are-pairs}
+use Rattle.recording.proofs.reading.read_pairs.Goals.{then-text-gt-LONGEST_LINE-via-then-text-gt-LONGEST_LINE, then-text-gt-LONGEST_LINE-via-else-text-gt-LONGEST_LINE+then-not-are_pairs}
 
 pub returns-then-text-gt-LONGEST_LINE : goal.returns-then-text-gt-LONGEST_LINE
 returns-then-text-gt-LONGEST_LINE c =
@@ -10,8 +10,8 @@ returns-then-text-gt-LONGEST_LINE c =
     record {
       told = tell_bad text c.args.memory.now
           (elim c.then-text-gt-LONGEST_LINE.branch [
-            | then-text-gt-LONGEST-LINE-via-then-text-gt-LONGEST-LINE w ↦ long_bad text w.if-text-gt-LONGEST_LINE.true
-            | then-text-gt-LONGEST-LINE-via-else-text-gt-LONGEST-LINE+then-not-are-pairs w ↦ other_bad text (sym w.if-not-are_pairs.ensures)
+            | then-text-gt-LONGEST_LINE-via-then-text-gt-LONGEST_LINE w ↦ long_bad text w.if-text-gt-LONGEST_LINE.true
+            | then-text-gt-LONGEST_LINE-via-else-text-gt-LONGEST_LINE+then-not-are_pairs w ↦ other_bad text (sym w.if-not-are_pairs.ensures)
           ]);
       within = tt;
     }

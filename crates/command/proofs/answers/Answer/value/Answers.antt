@@ -10,5 +10,5 @@ returns g c =
     let d : Objects = g.D.Dictionary.meaning c.args.dict.now in
     let e = look d c.args.at in
     let v = value d c.args.at in
-    let h = c.in-ok-fill.ensures in
-    value_in_place (read_fault e v 4) v c.fill.new.bytes (replicate 256 0) c.in-ok-fill.field-0 (λ z. (readable e v 4 z).1) h.answer h.bytes
+    let h = c.in_ok-fill.ensures in
+    value_in_place (read_fault e v 4) v c.fill.new.bytes (replicate 256 0) c.in_ok-fill.field-0 (λ z. (readable e v 4 z).1) h.answer h.bytes

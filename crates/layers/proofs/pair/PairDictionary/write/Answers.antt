@@ -21,8 +21,8 @@ returns-in_default g c =
     let w = by_first d e c.args.at c.args.bytes.now taken _ _ c.write.ensures.after c.in_default.ensures.answer in
     record { answer = w.answer; after = w.after; first = c.write.ensures.after; second = w.second }
 
-pub returns-in-default·2 : goal.returns-in-default·2
-returns-in-default·2 g c =
+pub returns-in_default-2 : goal.returns-in_default-2
+returns-in_default-2 g c =
     let d = g.D.Dictionary.meaning c.args.self.now.first in
     let e = g.E.Dictionary.meaning c.args.self.now.second in
     let taken : write_answer d c.args.at c.args.bytes.now ≡ Err NoIndex → ⊥ = λ h. (let z : ◌≡◌ {A = ℕ} 0 1 = cc in omega arith) in
