@@ -1,7 +1,7 @@
 use Rattle.port.proofs.ObjectCalls.{never_refused}
 use Rattle.port.proofs.objects.read_object.Goals as goal
 
-pub returns-in-err-value : goal.returns-in-err-value
-returns-in-err-value g c = λ node k f is passes.
+pub returns-in_err-value : goal.returns-in_err-value
+returns-in_err-value g c = λ node k f is passes.
     never_refused (g.D.Dictionary.meaning c.args.dict.now) (g.D.Dictionary.sound c.args.dict.now) c.args.at node k f is passes
-    (c.in-ok-readable-number.ensures node k f is passes) c.value.result _ c.value.ensures c.in-err-value.was
+    (c.in_ok-readable_number.ensures node k f is passes) c.value.result _ c.value.ensures c.in_err-value.was

@@ -18,12 +18,12 @@ returns-in-Byte g c =
     let f1 = c.byte.new.frame in
     let m1 = c.byte.new.staging in
     let a1 = c.byte.new.answer in
-    let f : kf ≡ min i.granted-frame (length frame) = c.min-f.ensures in
-    let m : km ≡ min i.granted-staging (length staging) = c.min-m.ensures in
-    let a : ka ≡ min i.granted-answer (length answer) = c.min-a.ensures in
+    let f : kf ≡ min i.granted_frame (length frame) = c.min-f.ensures in
+    let m : km ≡ min i.granted_staging (length staging) = c.min-m.ensures in
+    let a : ka ≡ min i.granted_answer (length answer) = c.min-a.ensures in
     record {
       leads = for_request p p1 d d1 frame (f1 ++ drop (kf - 0) frame) staging (m1 ++ drop (km - 0) staging) (length answer) (a1 ++ drop (ka - 0) answer) c.args.request c.byte.result
-          i.byte i.granted-frame i.granted-staging i.granted-answer kf km ka i.is f m a
+          i.byte i.granted_frame i.granted_staging i.granted_answer kf km ka i.is f m a
           (granted_leads p p1 d d1 frame staging answer kf km ka (omega (arith, f)) (omega (arith, m)) (omega (arith, a)) f1 m1 a1 i.byte c.byte.result
           c.byte.ensures.lawful c.byte.ensures.steps c.byte.auto.frame c.byte.auto.staging);
       own = c.byte.ensures.node;

@@ -4,8 +4,8 @@ use Rattle.port.proofs.runs.run.Goals as goal
 
 pub loop-step-init : goal.loop-step-init
 loop-step-init g c =
-    let p = c.in-ok-port.port in
-    let o = c.in-ok-port.ensures in
+    let p = c.in_ok-port.port in
+    let o = c.in_ok-port.ensures in
     begins (g.D.Dictionary.meaning c.args.dict.now) (length c.args.frame.now) (length c.args.staging.now) c.args.steps.now c.args.node p c.args.frame.now c.args.staging.now
     (opened_node p.node c.args.node p.receiver.phase p.receiver.gathered p.chain.state o.port) (o.lawful (g.D.Dictionary.meaning c.args.dict.now) c.args.frame.now c.args.staging.now)
 

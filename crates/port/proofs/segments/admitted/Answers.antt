@@ -8,26 +8,26 @@ use Rattle.port.proofs.SegmentWrites.{no_chain_open, out_of_turn, misfit, sum_ov
 use Rattle.port.proofs.segments.admitted.Goals as goal
 use Rattle.port.proofs.segments.admitted.Goals.{else-last-via-then-last+else-bytes-declared-2, else-last-via-else-last}
 
-pub returns-in-default : goal.returns-in-default
-returns-in-default c = record { judges = no_chain_open c.args.chain.now.state c.args.toggle c.args.last c.args.part c.in-default.not-Writing; joins = tt }
+pub returns-in_default : goal.returns-in_default
+returns-in_default c = record { judges = no_chain_open c.args.chain.now.state c.args.toggle c.args.last c.args.part c.in_default.not-Writing; joins = tt }
 
-pub returns-in-err-in-turn : goal.returns-in-err-in-turn
-returns-in-err-in-turn c =
+pub returns-in_err-in_turn : goal.returns-in_err-in_turn
+returns-in_err-in_turn c =
     let i = c.in-Writing in
-    let f = c.in-err-in-turn.field-0.0 in
-    let e : Err f ≡ c.from-residual.result = search rules in
+    let f = c.in_err-in_turn.field-0.0 in
+    let e : Err f ≡ c.from_residual.result = search rules in
     record {
       judges = subst (λ r. Judges c.args.chain.now.state c.args.toggle c.args.last c.args.part r) e
-          (out_of_turn c.args.chain.now.state c.args.toggle c.args.last c.args.part i.at i.declared i.count i.turn i.is f c.in-err-in-turn.ensures);
+          (out_of_turn c.args.chain.now.state c.args.toggle c.args.last c.args.part i.at i.declared i.count i.turn i.is f c.in_err-in_turn.ensures);
       joins = search rules;
     }
 
-pub returns-in-default-part : goal.returns-in-default-part
-returns-in-default-part c =
+pub returns-in_default-part : goal.returns-in_default-part
+returns-in_default-part c =
     let i = c.in-Writing in
     record {
-      judges = misfit c.args.chain.now.state c.args.toggle c.args.last c.args.part i.at i.declared i.count i.turn i.is (same_turn _ _ _ c.in-ok-in-turn.ensures)
-          c.in-default-part.not-Some;
+      judges = misfit c.args.chain.now.state c.args.toggle c.args.last c.args.part i.at i.declared i.count i.turn i.is (same_turn _ _ _ c.in_ok-in_turn.ensures)
+          c.in_default-part.not-Some;
       joins = tt;
     }
 
@@ -36,7 +36,7 @@ returns-then-bytes-declared c =
     let i = c.in-Writing in
     let within : i.count ≤ i.declared = search rules in
     record {
-      judges = sum_over c.args.chain.now.state c.args.toggle c.args.last c.args.part i.at i.declared i.count i.turn i.is (same_turn _ _ _ c.in-ok-in-turn.ensures)
+      judges = sum_over c.args.chain.now.state c.args.toggle c.args.last c.args.part i.at i.declared i.count i.turn i.is (same_turn _ _ _ c.in_ok-in_turn.ensures)
           c.in-Some.part.place c.in-Some.part.bytes.now (ap part_values c.in-Some.is) (omega arith);
       joins = tt;
     }
@@ -46,7 +46,7 @@ returns-then-bytes-declared-2 c =
     let i = c.in-Writing in
     let within : i.count ≤ i.declared = search rules in
     record {
-      judges = last_short c.args.chain.now.state c.args.toggle c.args.last c.args.part i.at i.declared i.count i.turn i.is (same_turn _ _ _ c.in-ok-in-turn.ensures)
+      judges = last_short c.args.chain.now.state c.args.toggle c.args.last c.args.part i.at i.declared i.count i.turn i.is (same_turn _ _ _ c.in_ok-in_turn.ensures)
           c.in-Some.part.place c.in-Some.part.bytes.now (ap part_values c.in-Some.is) (omega arith) c.if-last.true (omega arith);
       joins = tt;
     }
@@ -56,7 +56,7 @@ returns c =
     let i = c.in-Writing in
     let part = c.in-Some.part in
     let within : i.count ≤ i.declared = search rules in
-    let same = same_turn _ _ _ c.in-ok-in-turn.ensures in
+    let same = same_turn _ _ _ c.in_ok-in_turn.ensures in
     let whole : c.args.last ≡ true → i.declared ≤ i.count + length part.bytes.now =
     elim c.else-last.branch [
       | else-last-via-then-last+else-bytes-declared-2 w ↦ λ _. omega (arith, w.if-bytes-declared-2.false)

@@ -6,5 +6,5 @@ pub returns : goal.returns
 returns c =
     record {
       sum = search rules;
-      staging = copied c.args.staging.now c.args.bytes.now c.copy-from-slice.new.self c.args.count c.requires c.copy-from-slice.ensures.after;
+      staging = copied c.args.staging.now c.args.bytes.now c.copy_from_slice.new.self c.args.count c.requires c.copy_from_slice.ensures.after;
     }

@@ -9,6 +9,6 @@ pub returns : goal.returns
 returns c =
     record {
       port = (λ i. Ok (c.args.node, c.new.ensures.phase i, c.new.ensures.gathered i, Closed))
-          ∙ sym (cond-true (own_node c.args.node) _ _ (sym c.is-own.ensures ∙ c.if-not-is-own.false));
+          ∙ sym (cond-true (own_node c.args.node) _ _ (sym c.is_own.ensures ∙ c.if-not-is_own.false));
       lawful = λ d0 frame staging. opened _ _ _ _ c.new.ensures.phase c.new.ensures.gathered refl d0 frame staging;
     }

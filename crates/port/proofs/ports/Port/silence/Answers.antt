@@ -3,7 +3,7 @@ use Rattle.port.proofs.ports.Port.silence.Goals as goal
 
 pub returns : goal.returns
 returns c =
-    let e = c.end-stretch.ensures in
+    let e = c.end_stretch.ensures in
     record {
       node = e.node;
       phase = e.phase;

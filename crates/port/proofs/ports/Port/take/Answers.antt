@@ -6,41 +6,41 @@ use Rattle.port.proofs.Keeping.{Enough, in_frame, in_staging, in_answer, short_c
 use Rattle.port.proofs.Taking.{quiet_call, completed_at, answered_call}
 use Rattle.port.proofs.ports.Port.take.Goals as goal
 
-pub returns-then-frame-lt-FRAME-MEMORY : goal.returns-then-frame-lt-FRAME-MEMORY
-returns-then-frame-lt-FRAME-MEMORY g c =
-    record { steps = sym (short_call _ _ _ _ _ (in_frame (lt-ltb _ _ c.if-frame-lt-FRAME-MEMORY.true))); node = refl; still = λ e _. refl }
+pub returns-then-frame-lt-FRAME_MEMORY : goal.returns-then-frame-lt-FRAME_MEMORY
+returns-then-frame-lt-FRAME_MEMORY g c =
+    record { steps = sym (short_call _ _ _ _ _ (in_frame (lt-ltb _ _ c.if-frame-lt-FRAME_MEMORY.true))); node = refl; still = λ e _. refl }
 
-pub returns-then-staging-lt-STAGING-MEMORY : goal.returns-then-staging-lt-STAGING-MEMORY
-returns-then-staging-lt-STAGING-MEMORY g c =
+pub returns-then-staging-lt-STAGING_MEMORY : goal.returns-then-staging-lt-STAGING_MEMORY
+returns-then-staging-lt-STAGING_MEMORY g c =
     record {
-      steps = sym (short_call _ _ _ _ _ (in_staging (le-ltb _ _ c.if-frame-lt-FRAME-MEMORY.false) (lt-ltb _ _ c.if-staging-lt-STAGING-MEMORY.true)));
+      steps = sym (short_call _ _ _ _ _ (in_staging (le-ltb _ _ c.if-frame-lt-FRAME_MEMORY.false) (lt-ltb _ _ c.if-staging-lt-STAGING_MEMORY.true)));
       node = refl;
       still = λ e _. refl;
     }
 
-pub returns-then-answer-lt-ANSWER-MEMORY : goal.returns-then-answer-lt-ANSWER-MEMORY
-returns-then-answer-lt-ANSWER-MEMORY g c =
+pub returns-then-answer-lt-ANSWER_MEMORY : goal.returns-then-answer-lt-ANSWER_MEMORY
+returns-then-answer-lt-ANSWER_MEMORY g c =
     record {
       steps = sym (short_call _ _ _ _ _
-          (in_answer (le-ltb _ _ c.if-frame-lt-FRAME-MEMORY.false) (le-ltb _ _ c.if-staging-lt-STAGING-MEMORY.false) (lt-ltb _ _ c.if-answer-lt-ANSWER-MEMORY.true)));
+          (in_answer (le-ltb _ _ c.if-frame-lt-FRAME_MEMORY.false) (le-ltb _ _ c.if-staging-lt-STAGING_MEMORY.false) (lt-ltb _ _ c.if-answer-lt-ANSWER_MEMORY.true)));
       node = refl;
       still = λ e _. refl;
     }
 
-pub returns-in-default : goal.returns-in-default
-returns-in-default g c =
+pub returns-in_default : goal.returns-in_default
+returns-in_default g c =
     let b = board c.args.self.now (g.D.Dictionary.meaning c.args.dict.now) c.args.frame.now c.args.staging.now c.args.answer.now in
     let enough : Enough (length c.args.frame.now) (length c.args.staging.now) (length c.args.answer.now)
-    = record { frame = le-ltb _ _ c.if-frame-lt-FRAME-MEMORY.false; staging = le-ltb _ _ c.if-staging-lt-STAGING-MEMORY.false; answer = le-ltb _ _ c.if-answer-lt-ANSWER-MEMORY.false } in
+    = record { frame = le-ltb _ _ c.if-frame-lt-FRAME_MEMORY.false; staging = le-ltb _ _ c.if-staging-lt-STAGING_MEMORY.false; answer = le-ltb _ _ c.if-answer-lt-ANSWER_MEMORY.false } in
     let s = step c.args.self.now.receiver.phase (take c.args.self.now.receiver.gathered c.args.frame.now) c.args.byte in
     record {
-      steps = quiet_call c.args.self.now.node b s _ _ _ c.in-default.ensures ∙ sym (enough_call c.args.self.now.node b c.args.byte enough);
+      steps = quiet_call c.args.self.now.node b s _ _ _ c.in_default.ensures ∙ sym (enough_call c.args.self.now.node b c.args.byte enough);
       node = refl;
       still = λ e h. let z : ◌≡◌ {A = ℕ} 0 1 = cc in absurd (omega arith);
     }
 
-pub slice-bounds-reply-end : goal.slice-bounds-reply-end
-slice-bounds-reply-end g c =
+pub slice_bounds-reply-end : goal.slice_bounds-reply-end
+slice_bounds-reply-end g c =
     let s = step c.args.self.now.receiver.phase (take c.args.self.now.receiver.gathered c.args.frame.now) c.args.byte in
     let at = completed_at s c.in-Some.count _ _ _ _ c.in-Some.ensures in
     let inside = at.inside in
@@ -50,7 +50,7 @@ pub returns : goal.returns
 returns g c =
     let b = board c.args.self.now (g.D.Dictionary.meaning c.args.dict.now) c.args.frame.now c.args.staging.now c.args.answer.now in
     let enough : Enough (length c.args.frame.now) (length c.args.staging.now) (length c.args.answer.now)
-    = record { frame = le-ltb _ _ c.if-frame-lt-FRAME-MEMORY.false; staging = le-ltb _ _ c.if-staging-lt-STAGING-MEMORY.false; answer = le-ltb _ _ c.if-answer-lt-ANSWER-MEMORY.false } in
+    = record { frame = le-ltb _ _ c.if-frame-lt-FRAME_MEMORY.false; staging = le-ltb _ _ c.if-staging-lt-STAGING_MEMORY.false; answer = le-ltb _ _ c.if-answer-lt-ANSWER_MEMORY.false } in
     let s = step c.args.self.now.receiver.phase (take c.args.self.now.receiver.gathered c.args.frame.now) c.args.byte in
     record {
       steps = answered_call c.args.self.now.node b s c.in-Some.count _ _ c.receive-complete.new.frame c.in-Some.ensures c.reply-told.result _ _ _ _ c.reply-told.ensures
