@@ -5,5 +5,5 @@ use Rattle.bench.proofs.boards.push_line.Goals as goal
 
 pub returns : goal.returns
 returns c =
-    appended c.push-str.result (string_bytes c.args.text.now) (spelled_bytes c.args.cable.now) (string_bytes c.push-pairs.new.text)
-    (0x0A ∷ []) (string_bytes c.push-str.new.self) c.in-ok-push-pairs.ensures.bytes c.push-str.ensures.bytes
+    appended c.push_str.result (string_bytes c.args.text.now) (spelled_bytes c.args.cable.now) (string_bytes c.push_pairs.new.text)
+    (0x0A ∷ []) (string_bytes c.push_str.new.self) c.in_ok-push_pairs.ensures.bytes c.push_str.ensures.bytes

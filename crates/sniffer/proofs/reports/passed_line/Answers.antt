@@ -6,4 +6,4 @@ pub returns-in-Heard : goal.returns-in-Heard
 returns-in-Heard c =
     let is : body_line_lem (codes "heard") c.front.result.now ≡ passed_line_lem c.args.passed c.args.memory.now
     = ap (body_line_lem (codes "heard")) c.front.ensures ∙ ap (λ p. passed_line_lem p c.args.memory.now) (sym c.in-Heard.is) in
-    subst (λ (t : List ℕ). IfOk c.body-line.result (λ line. string_bytes line ≡ t)) is c.body-line.ensures
+    subst (λ (t : List ℕ). IfOk c.body_line.result (λ line. string_bytes line ≡ t)) is c.body_line.ensures

@@ -5,6 +5,6 @@ use Rattle.sniffer.proofs.reports.push_field.Goals as goal
 
 pub returns : goal.returns
 returns c =
-    appended c.push-pairs.result (string_bytes c.args.text.now) c.args.label.now (string_bytes c.push-str.new.self)
-    (spelled_bytes c.args.bytes.now) (string_bytes c.push-pairs.new.text) c.in-ok-push-str.ensures.bytes
-    c.push-pairs.ensures.bytes
+    appended c.push_pairs.result (string_bytes c.args.text.now) c.args.label.now (string_bytes c.push_str.new.self)
+    (spelled_bytes c.args.bytes.now) (string_bytes c.push_pairs.new.text) c.in_ok-push_str.ensures.bytes
+    c.push_pairs.ensures.bytes
