@@ -1,14 +1,14 @@
 -- A frame is accepted exactly where the words hold: each check that does not apply gives one of them.
-use Rattle.std.proofs.Common.{◌≡◌, ℕ, ◌+◌, ◌<◌, ◌≤◌, Bool, true, false, cond, not, ◌&&◌, eqb, ltb, leb, List, [], ◌∷◌, ◌++◌, length, take, Some, None, Option, sym, refl, ap, ◌∙◌, subst, arith}
+use Rattle.std.proofs.Common.{◌≡◌, ℕ, ◌+◌, Bool, true, false, ◌&&◌, ltb, ◌++◌, length, None, refl, arith}
 use Rattle.std.proofs.lemmas.Bool.{ltb-false, le-ltb}
 use Rattle.dictionary.specs.declared.Address.{Address}
 use Rattle.dictionary.specs.declared.Shape.TheVariants.{Number, Run}
-use Rattle.dictionary.specs.Objects.{Bytes, Objects, Entry, no_index, no_subindex, present, look, MayBeRead, TakesLength, Admits, IsNumber}
+use Rattle.dictionary.specs.Objects.{Bytes, Objects, Entry, no_index, no_subindex, present, look, MayBeRead}
 use Rattle.dictionary.specs.Checks.{is_run}
 use Rattle.dictionary.proofs.Words.{reads_from, reads_back, takes_from, takes_back, admits_from, admits_back}
 use Rattle.wire.specs.Frames.{Frame}
 use Rattle.command.specs.Frames.{Verb, read_object, initiate_read, write_object, initiate_write, segment_read, segment_write, unknown}
-use Rattle.command.specs.Frames.{verb, len, node_of, address, payload, declared, write_toggle, read_toggle, size, marked, part, room, LenFits}
+use Rattle.command.specs.Frames.{verb, len, node_of, address, payload, declared, write_toggle, read_toggle, size, marked, part, room}
 use Rattle.command.specs.Checks.{Check, OpCode, Len, Node, NoChain, Toggle, NAgainstLen, SumOver, LastShort, Index, Subindex, ReadOfWo, WriteOfRo, OnRun, OverLength, UnderLength, OverHigh, UnderLow}
 use Rattle.command.specs.Checks.{OpenChain, closed, reading, writing, checks, first, fault, low_bytes}
 use Rattle.command.specs.Accepted.{OfNumber, NextRead, NextWrite, Passes, Accepted}

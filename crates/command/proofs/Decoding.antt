@@ -1,5 +1,5 @@
 -- A frame's fields are what its data say, and the command row is by Len and, where there is an address, by node.
-use Rattle.std.proofs.Common.{◌≡◌, ℕ, ◌+◌, ◌-◌, ◌*◌, ◌/◌, ◌%◌, ◌<◌, ◌≤◌, Bool, true, false, cond, not, ◌&&◌, eqb, leb, List, [], ◌∷◌, length, get_or, take, drop, Some, None, Option, sym, refl, ap, ◌∙◌, arith, length-drop}
+use Rattle.std.proofs.Common.{◌≡◌, ℕ, ◌+◌, ◌-◌, ◌*◌, ◌/◌, ◌%◌, ◌≤◌, Bool, true, false, cond, not, eqb, length, get_or, take, drop, Some, None, Option, sym, refl, ap, ◌∙◌, arith, length-drop}
 use Rattle.std.proofs.lemmas.List.{take_rest}
 use Rattle.std.proofs.lemmas.Bool.{true≢false, eqb-true, eqb-false, eq-eqb, ne_eqb, cond-true, cond-false}
 use Rattle.dictionary.specs.declared.Address.{Address}
@@ -9,7 +9,7 @@ use Rattle.command.specs.declared.faults.CommandFault as command
 use Rattle.command.specs.declared.faults.Fault as layered
 use Rattle.command.specs.Frames.{Verb, read_object, initiate_read, write_object, initiate_write, segment_read, segment_write, unknown}
 use Rattle.command.specs.Frames.{verb_of, verb, len, node_of, address, payload, number, declared, read_toggle, write_toggle, size, marked, part, room, len_fits, LenFits}
-use Rattle.command.specs.Checks.{Check, OpCode, Len, Node, closed, concerns, checks, command_row, first_of, found}
+use Rattle.command.specs.Checks.{Check, Len, Node, closed, concerns, checks, command_row, first_of, found}
 use Rattle.command.specs.Answers.{four, bit}
 use Rattle.command.specs.Decoding.{command_check, part_in}
 

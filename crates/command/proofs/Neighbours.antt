@@ -1,8 +1,7 @@
 -- Neighbours that never both apply: by what they concern, by the entry, or by the checks that come before them.
-use Rattle.std.proofs.Common.{◌≡◌, ℕ, ◌+◌, ◌<◌, ◌≤◌, min, Bool, true, false, cond, not, ◌&&◌, eqb, ltb, ◌⊎◌, List, [], ◌∷◌, ◌++◌, length, get_or, take, drop, Some, None, Option, sym, refl, ap, ◌∙◌, inl, inr, arith, length-append, length-drop, length-take}
+use Rattle.std.proofs.Common.{◌≡◌, ℕ, ◌+◌, ◌≤◌, Bool, true, false, cond, ◌&&◌, ltb, List, [], ◌∷◌, ◌++◌, length, get_or, take, drop, Some, Option, sym, refl, ap, ◌∙◌, inl, inr, arith, length-append, length-drop, length-take}
 use native.Mathlib.Nat.{min-eq_left}
 use Rattle.std.proofs.lemmas.Bool.{ltb-true, ltb-false, le-ltb, and_parts}
-use Rattle.dictionary.specs.declared.Address.{Address}
 use Rattle.dictionary.specs.declared.Shape.TheVariants.{Number, Run}
 use Rattle.dictionary.specs.Objects.{Bytes, Objects, Entry, no_index, no_subindex, present, look, TakesLength, Sound}
 use Rattle.dictionary.specs.Checks.{index_absent, subindex_absent, write_only, is_run, over_length, under_length}
@@ -10,9 +9,9 @@ use Rattle.dictionary.proofs.Words.{takes_back}
 use Rattle.wire.specs.Frames.{Frame}
 use Rattle.command.specs.Frames.{Verb, read_object, initiate_read, write_object, initiate_write, segment_read, segment_write, unknown}
 use Rattle.command.specs.Frames.{verb, len, address, payload, size, marked, part, room}
-use Rattle.command.specs.Checks.{Check, OpCode, Len, Node, NoChain, Toggle, NAgainstLen, SumOver, LastShort, Index, Subindex, ReadOfWo, WriteOfRo, OnRun, OverLength, UnderLength, OverHigh, UnderLow}
-use Rattle.command.specs.Checks.{OpenChain, closed, reading, writing, checks, comes_to_dictionary, entry_for, length_for, first_of, first, in_order, fault, low_bytes}
-use Rattle.command.specs.Neighbours.{Taken, NeverBoth, Neighbours}
+use Rattle.command.specs.Checks.{Check, OpCode, Len, Node, NoChain, Toggle, NAgainstLen, SumOver, LastShort, Index, Subindex, ReadOfWo, WriteOfRo, OnRun, OverLength, UnderLength, OverHigh}
+use Rattle.command.specs.Checks.{OpenChain, closed, reading, writing, checks, entry_for, length_for, first_of, first, in_order, fault, low_bytes}
+use Rattle.command.specs.Neighbours.{Taken, Neighbours}
 use Rattle.command.proofs.Tables.{on_last, off, eq_from}
 
 -- The first check to apply applies, and those before it do not.

@@ -1,12 +1,12 @@
 -- The bytes of an answer: header, part of a value, pad.
-use Rattle.std.proofs.Common.{◌≡◌, ℕ, ◌+◌, ◌-◌, ◌*◌, ◌/◌, ◌%◌, ◌<◌, ◌≤◌, min, Bool, true, false, cond, leb, ◌⊎◌, List, [], ◌∷◌, ◌++◌, length, take, drop, set, replicate, sym, refl, ap, ◌∙◌, inl, inr, arith, length-append, length-drop, length-take, take_all}
+use Rattle.std.proofs.Common.{◌≡◌, ℕ, ◌+◌, ◌-◌, ◌*◌, ◌%◌, ◌<◌, ◌≤◌, min, Bool, true, false, cond, leb, ◌⊎◌, [], ◌∷◌, ◌++◌, length, take, drop, set, replicate, sym, refl, ap, ◌∙◌, inl, inr, arith, length-append, length-drop, length-take, take_all}
 use native.Mathlib.Nat.{min-eq_left, min-eq_right, min-le_left, min-le_right}
 use lib.Seq.{take-append-add}
 use borrow.Rule.Slice.PartMut.{put_mid}
 use Rattle.std.proofs.lemmas.List.{drop_all, drop-replicate, take-replicate, take_rest}
 use Rattle.std.proofs.lemmas.Bool.{cases_lt, le-leb, lt-leb}
 use Rattle.dictionary.specs.Objects.{Bytes}
-use Rattle.command.specs.Answers.{most, low_first, four, bit, padded, accepted_data, answer_control, first_segment_back, segment_back}
+use Rattle.command.specs.Answers.{low_first, four, bit, accepted_data, answer_control, first_segment_back, segment_back}
 
 -- what is taken of a header, bytes and more: the header, the bytes and p of what follows
 whole_front : (h bytes rest : Bytes) (n p k : ℕ) → length bytes ≡ n → k ≡ length h + n + p → take k (h ++ (bytes ++ rest)) ≡ h ++ (bytes ++ take p rest)

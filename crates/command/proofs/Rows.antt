@@ -2,10 +2,9 @@
 use Rattle.std.proofs.Common.{◌≡◌, ℕ, Bool, true, false, cond, List, [], ◌∷◌, ◌++◌, Some, None, Option, sym, refl, ap, ◌∙◌, arith}
 use Rattle.dictionary.specs.Objects.{Objects}
 use Rattle.wire.specs.Frames.{Frame}
-use Rattle.command.specs.declared.faults.CommandFault.{CommandFault}
 use Rattle.command.specs.declared.faults.Fault.{Fault}
-use Rattle.command.specs.Frames.{Verb, verb}
-use Rattle.command.specs.Checks.{Check, OpenChain, closed, command_row, segment_row, object_row, shape_row, value_row, checks, first_of, first, fault, found}
+use Rattle.command.specs.Frames.{verb}
+use Rattle.command.specs.Checks.{Check, OpenChain, command_row, segment_row, object_row, shape_row, value_row, checks, first_of, first, fault, found}
 use Rattle.command.specs.Decoding.{command_check}
 
 abbrev pub later_rows : List Check

@@ -1,7 +1,7 @@
 -- What a frame must be to be accepted, in words, for each command.
 -- Assumes nothing.
-use Rattle.std.specs.Prelude.{◌≡◌, ℕ, ◌+◌, ◌≤◌, Bool, true, false, List, [], ◌∷◌, ◌++◌, length, None}
-use Rattle.dictionary.specs.Objects.{Bytes, Objects, Entry, look, MayBeRead, TakesLength, Admits, IsNumber}
+use Rattle.std.specs.Prelude.{◌≡◌, ℕ, ◌+◌, ◌≤◌, true, ◌++◌, length, None}
+use Rattle.dictionary.specs.Objects.{Objects, Entry, look, MayBeRead, TakesLength, Admits, IsNumber}
 use Rattle.wire.specs.Frames.{Frame}
 use Rattle.command.specs.Frames.{Verb, read_object, initiate_read, write_object, initiate_write, segment_read, segment_write, unknown}
 use Rattle.command.specs.Frames.{verb, len, node_of, address, payload, declared, read_toggle, write_toggle, size, marked, part, room, LenFits}

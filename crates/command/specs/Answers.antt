@@ -1,6 +1,6 @@
 -- How the data of an answer are laid out: the code, then what the command brings back, padded to whole words.
 -- Assumes nothing.
-use Rattle.std.specs.Prelude.{ℕ, ◌+◌, ◌-◌, ◌/◌, ◌%◌, min, Bool, true, false, cond, List, [], ◌∷◌, ◌++◌, length, take, drop, replicate, Ok, Err, Result, nat_le}
+use Rattle.std.specs.Prelude.{ℕ, ◌+◌, ◌-◌, ◌/◌, ◌%◌, min, Bool, true, false, cond, [], ◌∷◌, ◌++◌, length, take, drop, replicate, Ok, Err, Result, nat_le}
 use Rattle.dictionary.specs.declared.Address.{Address}
 use Rattle.dictionary.specs.declared.Fault as dictionary
 use Rattle.dictionary.specs.Calls.{answer}

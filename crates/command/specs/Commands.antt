@@ -1,6 +1,6 @@
 -- The six commands: the answer to a heard frame, the chain that is open after it, and the write that it brings about.
 -- Assumes nothing.
-use Rattle.std.specs.Prelude.{ℕ, ◌+◌, ◌-◌, Bool, true, false, cond, List, [], ◌∷◌, ◌++◌, length, Some, None, Option, nat_lt}
+use Rattle.std.specs.Prelude.{ℕ, ◌+◌, ◌-◌, cond, [], ◌++◌, length, Some, None, Option, nat_lt}
 use Rattle.dictionary.specs.declared.Address.{Address}
 use Rattle.dictionary.specs.Objects.{Bytes, Objects, look, value, put}
 use Rattle.wire.specs.Frames.{Frame}

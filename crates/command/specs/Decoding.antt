@@ -1,9 +1,9 @@
 -- What a checked frame is read as: one of six commands with its own fields, or the first check of the command row that turns it away.
 -- Assumes nothing.
-use Rattle.std.specs.Prelude.{◌≡◌, ℕ, cond, List, drop, Some, None, Ok, Err, Option, Result, ◌==◌}
+use Rattle.std.specs.Prelude.{◌≡◌, ℕ, cond, drop, Some, None, Ok, Err, Option, Result, ◌==◌}
 use Rattle.std.specs.Borrow.{Bor}
 use Rattle.dictionary.specs.declared.Address.{Address}
-use Rattle.dictionary.specs.Objects.{Bytes, Objects}
+use Rattle.dictionary.specs.Objects.{Bytes}
 use Rattle.wire.specs.declared.checked.Frame as checked
 use Rattle.wire.specs.declared.faults.Fault as wire
 use Rattle.wire.specs.Frames.{Frame}

@@ -3,9 +3,7 @@
 use Rattle.std.specs.Prelude.{ℕ}
 use Rattle.wire.specs.Numbers.{fault_code}
 use Rattle.dictionary.specs.Faults.{abort_code}
-use Rattle.command.specs.declared.faults.CommandFault.{CommandFault}
 use Rattle.command.specs.declared.faults.CommandFault.TheVariants.{OpCode, Len, Node}
-use Rattle.command.specs.declared.faults.ChainFault.{ChainFault}
 use Rattle.command.specs.declared.faults.ChainFault.TheVariants.{NoChain, Toggle, Misfit, SumOver, LastShort}
 use Rattle.command.specs.declared.faults.Fault.{Fault}
 use Rattle.command.specs.declared.faults.Fault.TheVariants.{Wire, Command, Chain, Dictionary}

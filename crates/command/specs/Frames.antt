@@ -1,6 +1,6 @@
 -- The command that the OpCode of a frame names, and the fields that stand in its data.
 -- Assumes nothing.
-use Rattle.std.specs.Prelude.{◌≡◌, ℕ, ◌+◌, ◌*◌, ◌/◌, ◌%◌, ◌≤◌, Bool, true, false, cond, ◌&&◌, List, length, take, drop, ◌==◌, nat_le, slice_index}
+use Rattle.std.specs.Prelude.{◌≡◌, ℕ, ◌+◌, ◌*◌, ◌/◌, ◌%◌, ◌≤◌, Bool, true, false, cond, ◌&&◌, length, take, drop, ◌==◌, nat_le, slice_index}
 use Rattle.dictionary.specs.declared.Address.{Address}
 use Rattle.dictionary.specs.Objects.{Bytes, unsigned_value}
 use Rattle.wire.specs.Frames.{Frame}

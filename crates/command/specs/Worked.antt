@@ -1,7 +1,7 @@
 -- Worked cases of the six commands: each check alone, neighbours in the order where both apply, each accepted command with
 -- edge lengths. They follow from the definitions by computation.
 -- Assumes nothing.
-use Rattle.std.specs.Prelude.{◌≡◌, ℕ, Bool, true, false, cond, List, [], ◌∷◌, ◌++◌, replicate, ℤ, pos, negsuc, Some, None, Option, ◌==◌}
+use Rattle.std.specs.Prelude.{◌≡◌, ℕ, true, false, cond, List, [], ◌∷◌, ◌++◌, replicate, pos, negsuc, Some, None, Option, ◌==◌}
 use Rattle.dictionary.specs.declared.Access.{Access}
 use Rattle.dictionary.specs.declared.Access.TheVariants.{Ro, Wo, Rw}
 use Rattle.dictionary.specs.declared.Fault.TheVariants.{NoIndex, NoSubindex, WriteOnly, ReadOnly, NotNumber, TooLong, TooShort, OverHigh, UnderLow}

@@ -1,10 +1,9 @@
 -- The three calls in words: by the fault of a write, it stores or it leaves all as it was.
-use Rattle.std.proofs.Common.{◌≡◌, Some, None, Option, sym, refl, ap, ◌∙◌}
-use Rattle.dictionary.specs.declared.Address.{Address}
+use Rattle.std.proofs.Common.{◌≡◌, Some, None, Option, refl, ap, ◌∙◌}
 use Rattle.dictionary.specs.declared.Fault.{Fault}
-use Rattle.dictionary.specs.Objects.{Bytes, Objects, look, value, put, Admits}
+use Rattle.dictionary.specs.Objects.{look, value, put}
 use Rattle.dictionary.specs.Checks.{write_fault}
-use Rattle.dictionary.specs.Calls.{leaves, after_write}
+use Rattle.dictionary.specs.Calls.{leaves}
 use Rattle.dictionary.specs.Laws.{CallsInWords}
 use Rattle.dictionary.proofs.Words.{readable, readable_back, admitted, admitted_back}
 use Rattle.dictionary.proofs.Stored.{look_put, value_put_same, value_put_other}

@@ -1,6 +1,6 @@
 -- What a write leaves: every entry, and every value but the one written.
-use Rattle.std.proofs.Common.{◌≡◌, ℕ, Bool, true, false, cond, eqb, ◌⊎◌, Some, None, Option, sym, refl, ap, ◌∙◌, subst, inl, inr}
-use Rattle.std.proofs.lemmas.Bool.{cases_eq, eqb-true, eq-eqb, ne_eqb, cases_Bool}
+use Rattle.std.proofs.Common.{◌≡◌, ℕ, Bool, true, false, cond, eqb, ◌⊎◌, Some, None, Option, sym, refl, ap, inl, inr}
+use Rattle.std.proofs.lemmas.Bool.{cases_eq, eq-eqb, ne_eqb}
 use Rattle.dictionary.specs.Objects.{Bytes, Object, Objects, look, value, put, put_under, with_value}
 use Rattle.dictionary.specs.declared.Address.{Address}
 use Rattle.dictionary.specs.Objects.{entry_of, entry_under, value_of, value_under, Admits}

@@ -5,7 +5,6 @@ use Rattle.dictionary.specs.declared.Access.{Access}
 use Rattle.dictionary.specs.declared.Access.TheVariants.{Ro, Wo, Rw}
 use Rattle.dictionary.specs.declared.Fault.{Fault}
 use Rattle.dictionary.specs.declared.Fault.TheVariants.{NoIndex, NoSubindex, WriteOnly, ReadOnly, TooLong, TooShort, OverHigh, UnderLow, ShortMemory}
-use Rattle.dictionary.specs.declared.Shape.{Shape}
 use Rattle.dictionary.specs.declared.Shape.TheVariants.{Number, Run}
 use Rattle.dictionary.specs.Objects.{Bytes, Entry, no_index, no_subindex, present, number_value}
 

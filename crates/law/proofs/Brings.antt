@@ -1,20 +1,18 @@
 -- The answers of an unbroken read chain bring the front of the value, 255 bytes at a time.
-use Rattle.std.proofs.Common.{◌≡◌, ℕ, suc, ◌+◌, ◌-◌, ◌*◌, ◌/◌, ◌%◌, ◌<◌, ◌≤◌, min, Bool, true, false, cond, eqb, leb, ◌⊎◌, List, [], ◌∷◌, ◌++◌, length, get_or, take, drop, Some, None, Option, sym, refl, ap, ◌∙◌, subst, subst₂, inl, inr, append_assoc, append-nil, arith, length-drop, length-take, take_all, take-add}
+use Rattle.std.proofs.Common.{◌≡◌, ℕ, suc, ◌+◌, ◌-◌, ◌/◌, ◌%◌, ◌<◌, min, Bool, true, false, cond, eqb, leb, List, [], ◌∷◌, ◌++◌, length, take, drop, None, sym, refl, ap, ◌∙◌, subst, inl, inr, append_assoc, append-nil, arith, length-drop, length-take, take_all, take-add}
 use lib.Seq.{take-append-le, take-length}
-use Rattle.std.proofs.lemmas.Bool.{true≢false, leb-true, leb-false, le-leb, eq-eqb, ne_eqb, cases_lt}
-use Rattle.dictionary.specs.Objects.{Bytes, Objects, look, value}
-use Rattle.dictionary.specs.declared.Address.{Address}
+use Rattle.std.proofs.lemmas.Bool.{leb-true, le-leb, eq-eqb, ne_eqb, cases_lt}
+use Rattle.dictionary.specs.Objects.{Bytes, Objects, value}
 use Rattle.wire.specs.Frames.{Frame}
 use Rattle.command.specs.Frames.{Verb, initiate_read, segment_read, verb, address, of_chain}
 use Rattle.command.specs.Checks.{first}
-use Rattle.command.specs.Checks.{fault_of, OpenChain, closed, reading, writing, checks, fault}
+use Rattle.command.specs.Checks.{fault_of, OpenChain, reading, checks}
 use Rattle.command.specs.Answers.{most, four, padded, refused_data, accepted_data, answer_control}
 use Rattle.command.specs.Commands.{by_fault, answer, brings_back, segment_read_answer}
 use Rattle.law.specs.Histories.{InTurn, chain_frames, turn, itself}
-use Rattle.law.specs.Held.{Held}
 use Rattle.law.specs.ReadChains.{sent_after, ReadInitiate, ReadSegment, UnbrokenReadChain}
 use Rattle.law.specs.Calls.{Exchange, frames}
-use Rattle.law.specs.ReadAnswers.{initiate_part, segment_part, marked_last, segment_parts, joined_answers, Adds, BringsFront, UnbrokenReadExchanges, ReadChainsBringFront}
+use Rattle.law.specs.ReadAnswers.{initiate_part, segment_part, marked_last, segment_parts, joined_answers, Adds, BringsFront, ReadChainsBringFront}
 use Rattle.law.specs.Lawful.{AnsweredByTable}
 use Rattle.law.proofs.Passing.{fault_at, read_initiate_back, read_segment_back}
 use Rattle.law.proofs.Values.{one_value}

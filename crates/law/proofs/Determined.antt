@@ -1,5 +1,5 @@
 -- Two lawful runs of the same calls brought the same and left the same: by induction, each call's answer rests on the same history.
-use Rattle.std.proofs.Common.{◌≡◌, ℕ, ◌⊎◌, List, [], ◌∷◌, ◌++◌, Some, None, Option, sym, refl, ap, ◌∙◌, subst, inl, inr, arith}
+use Rattle.std.proofs.Common.{◌≡◌, ℕ, List, [], ◌∷◌, Some, None, Option, sym, refl, ap, ◌∙◌, subst, inl, inr, arith}
 use mathlib.Core.Path.{fun_ext}
 use Rattle.std.proofs.lemmas.Bool.{cases_Bool}
 use Rattle.wire.specs.Checking.{frame_in, fits}
@@ -8,18 +8,17 @@ use Rattle.wire.proofs.Frames.{frame_laws_lem, fits_heard, fits_damaged}
 use Rattle.dictionary.specs.declared.Access.{Access}
 use Rattle.dictionary.specs.declared.Shape.{Shape}
 use Rattle.dictionary.specs.declared.Address.{Address}
-use Rattle.dictionary.specs.Objects.{Bytes, Object, Objects, Entry, no_index, no_subindex, present, look, value, entry_of, entry_under, value_of, value_under}
-use Rattle.command.specs.Checks.{OpenChain}
+use Rattle.dictionary.specs.Objects.{Bytes, Object, Objects, no_index, no_subindex, present, look, value, entry_of, entry_under, value_of, value_under}
 use Rattle.command.specs.Commands.{answer}
 use Rattle.law.specs.Histories.{InTurn}
 use Rattle.law.specs.Held.{ObjectsHeld}
 use Rattle.law.specs.Calls.{Call, Brought, refused, nothing, answered, Event, calls, stretch, HeardAt, answer_frame, Exchange, frames, Exchanged, none_yet, frame_heard, no_frame}
-use Rattle.law.specs.Lawful.{Refusals, Reception, AnsweredByTable, Lawful, SameObjects, Determined}
+use Rattle.law.specs.Lawful.{Refusals, Reception, AnsweredByTable, SameObjects, Determined}
 use Rattle.law.specs.Ports.{event}
 use Rattle.law.proofs.Values.{one_value}
 use Rattle.law.proofs.Open.{one_chain}
 use Rattle.law.proofs.Exchanges.{exchange}
-use Rattle.law.proofs.Ports.{refused_answered, nothing_refused, nothing_answered}
+use Rattle.law.proofs.Ports.{nothing_answered}
 
 -- Objects with the same entries and values are the same
 

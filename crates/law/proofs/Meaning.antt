@@ -1,11 +1,11 @@
 -- The words of the law have one meaning: each is tied to the one run of the model, or read off the events.
-use Rattle.std.proofs.Common.{◌≡◌, ℕ, ◌+◌, ◌<◌, ◌≤◌, List, [], ◌∷◌, ◌++◌, length, sym, refl, ap, ◌∙◌, subst, arith, length-append, length-take}
+use Rattle.std.proofs.Common.{◌≡◌, ℕ, ◌<◌, ◌≤◌, List, [], ◌∷◌, length, sym, refl, ◌∙◌, subst, arith, length-append, length-take}
 use Rattle.wire.specs.Frames.{Frame}
 use Rattle.wire.proofs.Frames.{frame_laws_lem}
 use Rattle.command.specs.Frames.{size, part}
 use Rattle.law.specs.Histories.{InTurn}
 use Rattle.law.specs.WriteChains.{joined, UnmarkedSegment}
-use Rattle.law.specs.Calls.{answered, Event, stretch, answer_frame, Exchange, Exchanged, none_yet, frame_heard, no_frame}
+use Rattle.law.specs.Calls.{Event, stretch, answer_frame, Exchange, Exchanged, none_yet, frame_heard, no_frame}
 use Rattle.law.specs.Lawful.{OneMeaning}
 use Rattle.law.proofs.AnswerFrames.{answer_is}
 use Rattle.law.proofs.Values.{one_value}

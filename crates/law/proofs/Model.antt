@@ -6,7 +6,7 @@ use Rattle.wire.specs.Receiving.{Step, step}
 use Rattle.dictionary.specs.Objects.{Bytes, Objects}
 use Rattle.command.specs.Checks.{OpenChain, closed}
 use Rattle.law.specs.Calls.{Call, byte, silence, refused, nothing, Event, calls, refusal}
-use Rattle.law.specs.Lawful.{Lawful, Satisfiable}
+use Rattle.law.specs.Lawful.{Satisfiable}
 use Rattle.law.specs.Ports.{LedTo, Served, served, event, MovesOn}
 use Rattle.law.proofs.Ports.{law_over_runs}
 

@@ -1,13 +1,13 @@
 -- There is one chain that is open by the history.
-use Rattle.std.proofs.Common.{◌≡◌, ℕ, List, [], ◌∷◌, ◌++◌, length, sym, refl, ap, ◌∙◌, subst, arith}
-use Rattle.dictionary.specs.Objects.{Bytes, Objects, look, value}
+use Rattle.std.proofs.Common.{◌≡◌, ℕ, List, [], ◌∷◌, length, sym, refl, ◌∙◌, subst, arith}
+use Rattle.dictionary.specs.Objects.{Bytes, Objects, value}
 use Rattle.dictionary.specs.declared.Address.{Address}
 use Rattle.wire.specs.Frames.{Frame}
 use Rattle.command.specs.Checks.{OpenChain, closed, reading, writing}
 use Rattle.command.specs.Commands.{carry, write_of, apply, next_chain}
 use Rattle.law.specs.Histories.{turn}
 use Rattle.law.specs.WriteChains.{joined}
-use Rattle.law.specs.Held.{Held, ObjectsHeld}
+use Rattle.law.specs.Held.{ObjectsHeld}
 use Rattle.law.specs.ReadChains.{sent_after, OpenAfter}
 use Rattle.law.proofs.After.{after}
 use Rattle.law.proofs.WriteChains.{Tied}

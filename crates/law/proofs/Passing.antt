@@ -1,13 +1,12 @@
 -- What passing the checks says of the frames of chains and of a WriteObject, and what makes them pass.
-use Rattle.std.proofs.Common.{◌≡◌, ℕ, ◌+◌, ◌<◌, ◌≤◌, Bool, true, false, cond, not, ◌&&◌, List, [], ◌∷◌, ◌++◌, length, take, Some, None, Option, sym, refl, ap, ◌∙◌, subst}
+use Rattle.std.proofs.Common.{◌≡◌, ℕ, ◌<◌, true, false, List, ◌++◌, length, None, sym, refl, ap, ◌∙◌, subst}
 use Rattle.std.proofs.lemmas.Bool.{true≢false}
 use Rattle.wire.specs.Frames.{Frame}
 use Rattle.dictionary.specs.declared.Address.{Address}
 use Rattle.dictionary.specs.Objects.{Bytes, Objects, Entry, look, MayBeRead, TakesLength, Admits, IsNumber}
-use Rattle.command.specs.Frames.{Verb, read_object, initiate_read, write_object, initiate_write, segment_read, segment_write, unknown}
-use Rattle.command.specs.Frames.{verb, len, node_of, address, payload, declared, write_toggle, read_toggle, size, marked, part, room, LenFits}
-use Rattle.command.specs.Checks.{OpenChain, closed, reading, writing, checks, first, fault, low_bytes}
-use Rattle.command.specs.Accepted.{Passes}
+use Rattle.command.specs.Frames.{Verb, initiate_read, write_object, initiate_write, segment_read, segment_write}
+use Rattle.command.specs.Frames.{verb, address, payload, declared, marked, part}
+use Rattle.command.specs.Checks.{OpenChain, reading, writing, checks, first, fault, low_bytes}
 use Rattle.command.proofs.Tables.{number_back}
 use Rattle.command.proofs.Accepted.{passed, passing}
 use Rattle.law.specs.Histories.{turn}

@@ -1,5 +1,5 @@
 -- Every call keeps the law: the receiver reports a body exactly where the stretch completes one, and a heard frame keeps the law of exchanges.
-use Rattle.std.proofs.Common.{◌≡◌, ℕ, ◌+◌, ◌*◌, ◌/◌, Bool, true, false, cond, List, [], ◌∷◌, ◌++◌, length, get_or, take, drop, Some, None, Ok, Err, Option, sym, refl, ap, ◌∙◌, subst, arith}
+use Rattle.std.proofs.Common.{◌≡◌, ℕ, ◌/◌, Bool, true, false, cond, List, [], ◌∷◌, ◌++◌, length, get_or, take, drop, Some, None, Ok, Err, Option, sym, refl, ap, ◌∙◌, subst, arith}
 use Rattle.std.proofs.lemmas.List.{take_at}
 use Rattle.wire.specs.declared.faults.Fault.TheVariants.{Checksum}
 use Rattle.wire.specs.declared.receiving.Phase.{Phase}
@@ -18,9 +18,9 @@ use Rattle.dictionary.specs.Objects.{Bytes, Objects}
 use Rattle.command.specs.Answers.{four}
 use Rattle.command.specs.Checks.{OpenChain}
 use Rattle.command.specs.Commands.{Outcome, carry}
-use Rattle.law.specs.Calls.{Call, byte, silence, Brought, refused, nothing, answered, Event, refusal, TooSmall, Taken, with_byte, stretch, answer_frame, code_in, damaged_code}
-use Rattle.law.specs.Calls.{Exchange, frames, Exchanged, none_yet, frame_heard, no_frame}
-use Rattle.law.specs.Lawful.{Refusals, Reception, Lawful}
+use Rattle.law.specs.Calls.{Call, byte, silence, Brought, refused, nothing, answered, Event, refusal, Taken, with_byte, stretch, answer_frame, code_in, damaged_code}
+use Rattle.law.specs.Calls.{Exchange, Exchanged, none_yet, frame_heard, no_frame}
+use Rattle.law.specs.Lawful.{Refusals, Reception}
 use Rattle.law.specs.Ports.{LedTo, Served, judged, served, event, MovesOn, LawOverRuns}
 use Rattle.law.proofs.AnswerFrames.{answer_is, carried_code}
 use Rattle.law.proofs.Exchanges as exchanging

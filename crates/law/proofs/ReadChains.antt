@@ -1,15 +1,15 @@
 -- The open chain is a read chain exactly where the history has one open.
-use Rattle.std.proofs.Common.{◌≡◌, ℕ, suc, ◌+◌, ◌-◌, ◌*◌, ◌%◌, ◌<◌, ◌≤◌, Bool, true, false, cond, not, ltb, List, [], ◌∷◌, ◌++◌, length, Some, None, Option, sym, refl, ap, ◌∙◌, subst, subst₂, arith}
+use Rattle.std.proofs.Common.{◌≡◌, ℕ, suc, ◌+◌, ◌-◌, ◌<◌, Bool, true, false, cond, ltb, List, [], ◌∷◌, ◌++◌, length, Some, None, Option, sym, refl, ap, ◌∙◌, subst, subst₂, arith}
 use Rattle.std.proofs.lemmas.Bool.{ltb-true, lt-ltb}
-use Rattle.dictionary.specs.Objects.{Bytes, Objects, look, value}
+use Rattle.dictionary.specs.Objects.{Bytes, Objects, value}
 use Rattle.dictionary.specs.declared.Address.{Address}
 use Rattle.command.specs.Checks.{Check}
 use Rattle.wire.specs.Frames.{Frame}
 use Rattle.command.specs.Frames.{Verb, read_object, initiate_read, write_object, initiate_write, segment_read, segment_write, unknown}
-use Rattle.command.specs.Frames.{verb, len, address, declared, marked, part, read_toggle, of_chain}
+use Rattle.command.specs.Frames.{verb, address, marked, part, of_chain}
 use Rattle.command.specs.Checks.{first}
-use Rattle.command.specs.Checks.{OpenChain, closed, reading, writing, checks, fault}
-use Rattle.command.specs.Commands.{chain_by, next_chain, remains, read_on, by_fault}
+use Rattle.command.specs.Checks.{OpenChain, closed, reading, writing, checks}
+use Rattle.command.specs.Commands.{chain_by, next_chain, remains, read_on}
 use Rattle.command.specs.Answers.{most}
 use Rattle.law.specs.Histories.{turn}
 use Rattle.law.specs.Held.{Held}

@@ -1,15 +1,15 @@
 -- Wrong ports are unlawful: the model's output is the only lawful one, and theirs differs from it.
-use Rattle.std.proofs.Common.{◌≡◌, ℕ, Bool, true, false, ◌&&◌, eqb, List, [], ◌∷◌, ◌++◌, length, get_or, sym, refl, ap, ◌∙◌, subst, arith}
+use Rattle.std.proofs.Common.{◌≡◌, Bool, true, false, ◌&&◌, List, [], ◌∷◌, ◌++◌, length, get_or, sym, refl, ap, ◌∙◌, arith}
 use Rattle.std.proofs.lemmas.Bool.{true≢false, eq-eqb}
 use Rattle.wire.specs.Checking.{fits, same_bytes}
 use Rattle.wire.specs.Checksum.{takes, register, words, checksum_of}
-use Rattle.dictionary.specs.Objects.{Bytes, Objects, value}
+use Rattle.dictionary.specs.Objects.{Bytes}
 use Rattle.command.specs.Answers.{four, answer_control}
 use Rattle.command.specs.Checks.{first, fault}
 use Rattle.command.specs.Commands.{answer, next_chain, write_of, carry}
 use Rattle.command.specs.Frames.{verb, len, node_of, address, payload, declared, read_toggle, write_toggle, size, marked, part}
-use Rattle.law.specs.Calls.{Call, Event, calls, answer_frame}
-use Rattle.law.specs.Worked.{board, number_at, then_frames, output, write_number, read_line, write_line, first_answer, second_answer, done}
+use Rattle.law.specs.Calls.{Call}
+use Rattle.law.specs.Worked.{board, number_at, then_frames, output, write_number, first_answer, second_answer}
 use Rattle.law.specs.Unlawful.{Unlawful, WrongPorts}
 use Rattle.law.proofs.AnswerFrames.{answer_is}
 use Rattle.law.proofs.Model.{run}

@@ -1,5 +1,5 @@
 -- Each object holds what the last completed write of it brought.
-use Rattle.std.proofs.Common.{◌≡◌, ℕ, ◌⊎◌, List, [], ◌∷◌, ◌++◌, Some, None, Option, sym, refl, ap, ◌∙◌, subst, subst₂, inl, inr, append-nil}
+use Rattle.std.proofs.Common.{◌≡◌, ℕ, List, [], ◌∷◌, ◌++◌, Some, None, Option, sym, refl, ap, ◌∙◌, subst, subst₂, inl, inr, append-nil}
 use Rattle.dictionary.specs.Objects.{Bytes, Objects, look, value, put, Admits}
 use Rattle.dictionary.specs.declared.Address.{Address}
 use Rattle.wire.specs.Frames.{Frame}

@@ -1,5 +1,5 @@
 -- The worked facts: the model computes them, and the law leaves no other behaviour.
-use Rattle.std.proofs.Common.{◌≡◌, ℕ, List, [], ◌∷◌, ◌++◌, replicate, sym, refl, ap, ◌∙◌}
+use Rattle.std.proofs.Common.{◌≡◌, List, [], ◌∷◌, replicate, sym, refl, ap, ◌∙◌}
 use Rattle.wire.specs.Checking.{fits}
 use Rattle.wire.specs.Checksum.{takes, register, words, checksum_of}
 use Rattle.wire.proofs.Examples as wire

@@ -1,14 +1,14 @@
 -- A frame brings about a write exactly where, by the history, it completes one.
-use Rattle.std.proofs.Common.{◌≡◌, ℕ, suc, ◌+◌, ◌-◌, ◌%◌, ◌<◌, ◌≤◌, Bool, true, false, cond, not, ◌⊎◌, List, [], ◌∷◌, ◌++◌, Some, None, Option, sym, refl, ap, ◌∙◌, subst, subst₂, inl, inr, arith}
-use Rattle.dictionary.specs.Objects.{Bytes, Objects, look, value, Admits}
+use Rattle.std.proofs.Common.{◌≡◌, ℕ, Bool, true, false, cond, List, ◌++◌, Some, None, Option, sym, refl, ap, ◌∙◌, subst, subst₂, inl, inr, arith}
+use Rattle.dictionary.specs.Objects.{Bytes, Objects, look, Admits}
 use Rattle.dictionary.specs.declared.Address.{Address}
 use Rattle.command.specs.Checks.{low_bytes}
 use Rattle.command.specs.Checks.{Check}
 use Rattle.wire.specs.Frames.{Frame}
 use Rattle.command.specs.Frames.{Verb, read_object, initiate_read, write_object, initiate_write, segment_read, segment_write, unknown}
-use Rattle.command.specs.Frames.{verb, address, payload, marked, part, of_chain}
+use Rattle.command.specs.Frames.{verb, address, payload, marked, part}
 use Rattle.command.specs.Checks.{first}
-use Rattle.command.specs.Checks.{OpenChain, closed, reading, writing, checks, fault}
+use Rattle.command.specs.Checks.{OpenChain, closed, reading, writing, checks}
 use Rattle.command.specs.Commands.{by_fault, Write, writes, ended, write_of}
 use Rattle.law.specs.Histories.{turn}
 use Rattle.law.specs.WriteChains.{joined, OpenWriteChain}

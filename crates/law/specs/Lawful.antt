@@ -1,6 +1,6 @@
 -- The law over runs: what the events of one opened port are, and what they leave.
 -- Assumes nothing.
-use Rattle.std.specs.Prelude.{◌≡◌, ℕ, ◌<◌, ◌≤◌, List, [], ◌∷◌, length}
+use Rattle.std.specs.Prelude.{◌≡◌, ℕ, ◌<◌, ◌≤◌, List, ◌∷◌, length}
 use Rattle.wire.specs.Frames.{Frame, NextFrames, FirstLost}
 use Rattle.dictionary.specs.declared.Address.{Address}
 use Rattle.dictionary.specs.Objects.{Bytes, Objects, look, value}

@@ -1,6 +1,6 @@
 -- Read chains: an InitiateSegmentedRead, then the SegmentReads that ask for the rest of the value. And the chain that a history leaves open.
 -- Assumes nothing.
-use Rattle.std.specs.Prelude.{◌≡◌, ℕ, suc, ◌*◌, ◌<◌, List, [], ◌∷◌, ◌++◌, length}
+use Rattle.std.specs.Prelude.{◌≡◌, ℕ, suc, ◌*◌, ◌<◌, List, length}
 use Rattle.wire.specs.Frames.{Frame}
 use Rattle.dictionary.specs.declared.Address.{Address}
 use Rattle.dictionary.specs.Objects.{Bytes, Objects}

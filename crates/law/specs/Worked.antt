@@ -1,6 +1,6 @@
 -- Worked facts: what every lawful run of some calls brought and left, on two objects of node 1.
 -- Assumes nothing.
-use Rattle.std.specs.Prelude.{◌≡◌, ℕ, Bool, false, cond, List, [], ◌∷◌, ◌++◌, take, replicate, pos, Some, None, Option, ◌==◌}
+use Rattle.std.specs.Prelude.{◌≡◌, ℕ, false, cond, List, [], ◌∷◌, ◌++◌, take, replicate, pos, Some, None, Option, ◌==◌}
 use Rattle.wire.specs.Checksum.{register}
 use Rattle.wire.specs.Frames.{Frame, written}
 use Rattle.wire.specs.Line.{Marked, Completes}

@@ -1,5 +1,5 @@
 -- A call on the front of each memory is a call of the run.
-use Rattle.std.proofs.Common.{◌≡◌, ℕ, ◌+◌, ◌-◌, ◌<◌, ◌≤◌, min, true, false, ltb, ◌⊎◌, List, [], ◌∷◌, ◌++◌, length, take, drop, Some, None, Ok, Err, Option, Result, sym, refl, ap, ◌∙◌, subst, subst₂, inl, inr, arith, length-append, take-append-drop}
+use Rattle.std.proofs.Common.{◌≡◌, ℕ, ◌-◌, ◌≤◌, min, List, ◌∷◌, ◌++◌, length, take, drop, Some, None, Ok, Err, Option, Result, sym, refl, ap, ◌∙◌, subst, subst₂, inl, inr, arith, length-append, take-append-drop}
 use lib.Seq.{take-append-le}
 use Rattle.std.proofs.lemmas.List.{length-take-le}
 use Rattle.std.proofs.lemmas.Bool.{ltb-false}
@@ -22,7 +22,7 @@ use Rattle.port.specs.Ports.{answer_of, Board, board, Called, call_result, recei
 use Rattle.port.specs.Runs.{LedToPort, brought_by, ByteKeepsLaw, SilenceKeepsLaw, call_of}
 use Rattle.port.specs.Serving.{body_done}
 use Rattle.port.specs.Chains.{chain_of, declared_by, held_by}
-use Rattle.port.proofs.Keeping.{Enough, Short, which, short_call, enough_call, short_refusal, enough_refusal}
+use Rattle.port.proofs.Keeping.{which, short_call, enough_call, short_refusal, enough_refusal}
 
 chain_front : (s : State) (l rest : Bytes) → held_by s ≤ declared_by s → declared_by s ≤ length l → chain_of s (l ++ rest) ≡ chain_of s l
 chain_front Closed l rest h k = refl

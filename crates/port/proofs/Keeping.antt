@@ -1,5 +1,5 @@
 -- A call that does what its equality says keeps the law.
-use Rattle.std.proofs.Common.{◌≡◌, ℕ, ◌<◌, ◌≤◌, Bool, true, false, cond, ◌||◌, ltb, ◌⊎◌, List, [], ◌∷◌, ◌++◌, length, take, drop, Some, None, Ok, Err, Option, Result, sym, refl, ap, ◌∙◌, subst, inl, inr, arith}
+use Rattle.std.proofs.Common.{◌≡◌, ℕ, true, false, ltb, ◌⊎◌, List, [], ◌∷◌, length, take, drop, Some, None, Ok, Err, Option, Result, sym, refl, ap, ◌∙◌, subst, inl, inr, arith}
 use Rattle.std.proofs.lemmas.List.{take_at}
 use Rattle.std.proofs.lemmas.Bool.{cases_Bool, cond-true, cond-false}
 use Rattle.wire.specs.declared.faults.Fault as wire
@@ -10,10 +10,9 @@ use Rattle.wire.specs.Frames.{Frame}
 use Rattle.wire.specs.Framing.{laid}
 use Rattle.wire.specs.Receiving.{Step, step, front}
 use Rattle.dictionary.specs.Objects.{Bytes, Objects}
-use Rattle.command.specs.declared.faults.Fault.{Fault}
 use Rattle.command.specs.Answers.{refused_data, accepted_data}
-use Rattle.command.specs.Checks.{Check, OpenChain, closed, fault, fault_of}
-use Rattle.command.specs.Commands.{Outcome, by_fault, brings_back, answer, carry}
+use Rattle.command.specs.Checks.{Check, OpenChain, fault, fault_of}
+use Rattle.command.specs.Commands.{by_fault, brings_back, answer, carry}
 use Rattle.command.specs.Frames.{verb}
 use Rattle.law.specs.Calls.{Brought, refused, nothing, answered, Event, refusal, answer_frame}
 use Rattle.law.specs.Calls as calls
@@ -27,9 +26,9 @@ use Rattle.port.specs.declared.ports.Reply.{Reply}
 use Rattle.port.specs.declared.states.State.{State}
 use Rattle.port.specs.declared.states.State.TheVariants.{Closed}
 use Rattle.port.specs.Chains.{chain_of}
-use Rattle.port.specs.Ports.{refusal_number, answer_of, Board, board, Called, call_result, refused_call, received, replied, served, taken_call, byte_of}
+use Rattle.port.specs.Ports.{refusal_number, answer_of, Board, board, Called, call_result, refused_call, received, served, taken_call, byte_of}
 use Rattle.port.specs.Runs.{LedToPort, brought_by, ByteKeepsLaw}
-use Rattle.port.specs.Serving.{Done, frame_done, body_done}
+use Rattle.port.specs.Serving.{frame_done, body_done}
 
 -- Opening and silence.
 

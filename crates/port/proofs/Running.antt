@@ -1,5 +1,5 @@
 -- A run keeps the law call by call.
-use Rattle.std.proofs.Common.{◌≡◌, ℕ, ◌+◌, ◌<◌, ◌≤◌, Bool, true, false, cond, ◌&&◌, leb, ◌⊎◌, List, [], ◌∷◌, ◌++◌, map, length, get_or, take, set, Ok, Err, Result, sym, refl, ap, ◌∙◌, subst, inl, inr, arith}
+use Rattle.std.proofs.Common.{◌≡◌, ℕ, ◌+◌, ◌<◌, ◌≤◌, Bool, true, false, cond, leb, ◌⊎◌, List, [], ◌∷◌, ◌++◌, map, length, get_or, take, set, Ok, Err, Result, sym, refl, ap, ◌∙◌, subst, inl, inr, arith}
 use Rattle.std.proofs.lemmas.List.{take_more_set, take_all, map-set, set-get_or}
 use Rattle.std.proofs.lemmas.Bool.{leb-false, and_cases, cases_Bool, cond-true}
 use Rattle.wire.specs.declared.receiving.Phase.{Phase}
@@ -7,7 +7,6 @@ use Rattle.wire.specs.declared.receiving.Phase.TheVariants.{Hunting}
 use Rattle.dictionary.specs.Objects.{Bytes, Objects}
 use Rattle.law.specs.Calls.{Event}
 use Rattle.law.specs.Lawful.{Lawful}
-use Rattle.law.specs.Ports.{event}
 use Rattle.port.specs.declared.ports.OpeningRefusal.{OpeningRefusal}
 use Rattle.port.specs.declared.ports.OpeningRefusal.TheVariants.{Node}
 use Rattle.port.specs.declared.ports.Port.{Port}

@@ -1,8 +1,7 @@
 -- A chain begins: a read chain with the whole value staged, a write chain where the object takes the declared length.
-use Rattle.std.proofs.Common.{◌≡◌, ℕ, ◌+◌, ◌-◌, ◌<◌, ◌≤◌, Bool, true, false, cond, ltb, List, [], ◌∷◌, ◌++◌, length, take, drop, Some, None, Ok, Err, Option, Result, sym, refl, ap, ◌∙◌, subst, arith}
+use Rattle.std.proofs.Common.{◌≡◌, ℕ, ◌<◌, ◌≤◌, Bool, true, false, ltb, [], length, take, Some, None, Ok, Err, Option, Result, sym, refl, ap, ◌∙◌, arith}
 use Rattle.std.proofs.lemmas.List.{take_at}
 use Rattle.std.proofs.lemmas.Bool.{cond-true, cond-false, lt-ltb, le-ltb}
-use Rattle.wire.specs.Frames.{Frame}
 use Rattle.wire.specs.Framing.{laid}
 use Rattle.dictionary.specs.declared.Address.{Address}
 use Rattle.dictionary.specs.declared.Fault as dictionary
@@ -11,14 +10,13 @@ use Rattle.command.specs.declared.commands.Command.TheVariants.{InitiateSegmente
 use Rattle.command.specs.declared.faults.Fault.{Fault}
 use Rattle.command.specs.declared.faults.Fault.TheVariants.{Dictionary}
 use Rattle.command.specs.Answers.{most, accepted_data, first_segment_back}
-use Rattle.command.specs.Checks.{Check, OpenChain, closed, reading, writing, fault}
+use Rattle.command.specs.Checks.{Check, OpenChain, reading, writing, fault}
 use Rattle.command.specs.Commands.{by_fault, remains}
 use Rattle.command.specs.Frames.{initiate_read, initiate_write, address}
 use Rattle.port.specs.declared.states.State.{State}
 use Rattle.port.specs.declared.states.State.TheVariants.{Reading, Writing}
-use Rattle.port.specs.Chains.{chain_of}
 use Rattle.port.specs.Objects.{EachFrame, by_table}
-use Rattle.port.specs.Serving.{Leaves, Carried, left}
+use Rattle.port.specs.Serving.{Carried, left}
 use Rattle.port.proofs.Served.{answered, leaves_by, ended, goes_on, none_found, one_found}
 
 module _ (d : Objects) (c : OpenChain) (m : Bytes) (at : Address) (declared : ℕ) where

@@ -1,8 +1,7 @@
 -- A segment of a write chain is joined to the bytes staged before it, and the last one brings them to the dictionary.
-use Rattle.std.proofs.Common.{◌≡◌, ℕ, ◌+◌, ◌-◌, ◌<◌, ◌≤◌, Bool, true, false, cond, not, ◌&&◌, List, [], ◌∷◌, ◌++◌, length, take, drop, Some, None, Ok, Err, Option, Result, sym, refl, ap, ◌∙◌, subst, append_assoc, arith, length-append}
+use Rattle.std.proofs.Common.{◌≡◌, ℕ, ◌+◌, ◌-◌, ◌≤◌, Bool, true, false, cond, not, ◌&&◌, ◌++◌, length, take, drop, Some, None, Ok, Err, Option, Result, sym, refl, ap, ◌∙◌, subst, append_assoc, arith, length-append}
 use borrow.Rule.Slice.PartMut.{put_mid}
 use Rattle.std.proofs.lemmas.List.{length-take-le, take_at, drop-drop}
-use Rattle.wire.specs.Frames.{Frame}
 use Rattle.wire.specs.Framing.{laid}
 use Rattle.dictionary.specs.declared.Address.{Address}
 use Rattle.dictionary.specs.declared.Fault as dictionary
@@ -15,16 +14,16 @@ use Rattle.command.specs.declared.faults.ChainFault.{ChainFault}
 use Rattle.command.specs.declared.faults.Fault.{Fault}
 use Rattle.command.specs.declared.faults.Fault.TheVariants.{Chain, Dictionary}
 use Rattle.command.specs.Answers.{bit, accepted_data, taken_back}
-use Rattle.command.specs.Checks.{Check, Index, Subindex, WriteOfRo, OverLength, UnderLength, OverHigh, UnderLow, OpenChain, closed, reading, writing, joined_of, fault_of, found, fault}
+use Rattle.command.specs.Checks.{Check, Index, Subindex, WriteOfRo, OverLength, UnderLength, OverHigh, UnderLow, OpenChain, closed, writing, joined_of, found}
 use Rattle.command.specs.Commands.{Write, by_fault, apply}
-use Rattle.command.specs.Decoding.{Is, command_check, part_values, part_in}
-use Rattle.command.specs.Frames.{segment_write, verb, marked, part}
+use Rattle.command.specs.Decoding.{part_values}
+use Rattle.command.specs.Frames.{segment_write, part}
 use Rattle.port.specs.declared.segments.Joining.{Joining}
 use Rattle.port.specs.declared.states.State.{State}
 use Rattle.port.specs.declared.states.State.TheVariants.{Writing}
 use Rattle.port.specs.Chains.{held_by, chain_of}
 use Rattle.port.specs.Segments.{Judges}
-use Rattle.port.specs.Serving.{Leaves, Carried, segment_fault, staged_by, left}
+use Rattle.port.specs.Serving.{Carried, segment_fault, left}
 use Rattle.port.proofs.ObjectRows.{raised, same_write, same_length, same_value}
 use Rattle.port.proofs.SegmentRows.{row_stops, row_clear, bit_flip}
 use Rattle.port.proofs.SegmentWrites.{fitted}

@@ -1,5 +1,5 @@
 -- A segment of a read chain brings the next bytes of the value that was staged when the chain began.
-use Rattle.std.proofs.Common.{◌≡◌, ℕ, ◌+◌, ◌-◌, ◌<◌, ◌≤◌, Bool, true, false, cond, not, eqb, ltb, length, take, Some, None, Ok, Err, Option, Result, sym, refl, ap, ◌∙◌, subst, arith}
+use Rattle.std.proofs.Common.{◌≡◌, ℕ, ◌+◌, ◌<◌, ◌≤◌, Bool, true, false, cond, not, eqb, ltb, length, take, Some, None, Ok, Err, Option, Result, sym, refl, ap, ◌∙◌, subst, arith}
 use Rattle.std.proofs.lemmas.List.{length-take-le}
 use Rattle.std.proofs.lemmas.Bool.{cond-true, cond-false, lt-ltb, le-ltb}
 use Rattle.wire.specs.Frames.{Frame}
@@ -10,15 +10,15 @@ use Rattle.command.specs.declared.faults.Fault.TheVariants.{Chain}
 use Rattle.command.specs.declared.faults.ChainFault.{ChainFault}
 use Rattle.command.specs.declared.faults.ChainFault as chain
 use Rattle.command.specs.Answers.{most, bit, accepted_data, segment_back}
-use Rattle.command.specs.Checks.{Check, NoChain, Toggle, OpenChain, closed, reading, writing, no_chain, fault}
-use Rattle.command.specs.Commands.{read_on, remains}
+use Rattle.command.specs.Checks.{Check, NoChain, Toggle, OpenChain, reading, no_chain, fault}
+use Rattle.command.specs.Commands.{read_on}
 use Rattle.command.specs.Decoding.{command_check}
 use Rattle.command.specs.Frames.{segment_read, verb, read_toggle}
 use Rattle.port.specs.declared.states.State.{State}
 use Rattle.port.specs.declared.states.State.TheVariants.{Closed, Reading, Writing}
 use Rattle.port.specs.Chains.{chain_of}
 use Rattle.port.specs.Segments.{in_turn_lem}
-use Rattle.port.specs.Serving.{Leaves, Carried, left}
+use Rattle.port.specs.Serving.{Carried, left}
 use Rattle.port.proofs.SegmentRows.{read_row, other_turn, bits_same, bit_flip}
 use Rattle.port.proofs.Served.{leaves_by, ended, goes_on}
 

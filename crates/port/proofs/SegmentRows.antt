@@ -1,15 +1,15 @@
 -- The segment row: where the command row passes, it comes next, and the rows behind it come where it passes.
-use Rattle.std.proofs.Common.{◌≡◌, ℕ, ◌+◌, ◌-◌, Bool, true, false, cond, not, ◌&&◌, eqb, ltb, List, [], ◌∷◌, ◌++◌, length, Some, None, Ok, Err, Option, sym, refl, ap, ◌∙◌, arith}
+use Rattle.std.proofs.Common.{◌≡◌, ℕ, ◌-◌, Bool, true, false, cond, not, eqb, List, [], ◌∷◌, ◌++◌, Some, None, Ok, Err, Option, sym, refl, ap, ◌∙◌, arith}
 use Rattle.std.proofs.lemmas.Bool.{eq-eqb}
 use Rattle.wire.specs.Frames.{Frame}
-use Rattle.dictionary.specs.Objects.{Bytes, Objects}
+use Rattle.dictionary.specs.Objects.{Objects}
 use Rattle.command.specs.declared.faults.ChainFault.{ChainFault}
 use Rattle.command.specs.declared.faults.ChainFault as chain
 use Rattle.command.specs.Answers.{bit}
 use Rattle.command.specs.Checks.{Check, NoChain, Toggle, OpenChain}
 use Rattle.command.specs.Checks.{command_row, segment_row, object_row, shape_row, value_row, no_chain, turn_of, checks, first_of, first, fault}
 use Rattle.command.specs.Decoding.{command_check}
-use Rattle.command.specs.Frames.{Verb, segment_read, segment_write, verb, read_toggle}
+use Rattle.command.specs.Frames.{segment_read, segment_write, verb, read_toggle}
 use Rattle.command.proofs.Rows.{row_passes}
 use Rattle.port.specs.Segments.{in_turn_lem}
 use Rattle.port.specs.Serving.{segment_fault}

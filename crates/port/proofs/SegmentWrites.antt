@@ -1,5 +1,5 @@
 -- The segment row of a SegmentWrite, check by check.
-use Rattle.std.proofs.Common.{◌≡◌, ℕ, ◌+◌, ◌-◌, ◌/◌, ◌<◌, ◌≤◌, Bool, true, false, cond, not, ◌&&◌, eqb, ltb, List, [], ◌∷◌, ◌++◌, length, get_or, take, drop, Some, None, Ok, Err, Option, Result, sym, refl, ap, ◌∙◌, subst, arith, length-drop}
+use Rattle.std.proofs.Common.{◌≡◌, ℕ, ◌+◌, ◌<◌, ◌≤◌, Bool, true, false, cond, not, ◌&&◌, eqb, ltb, length, get_or, take, drop, Some, None, Ok, Err, Option, sym, refl, ap, ◌∙◌, subst, arith, length-drop}
 use Rattle.std.proofs.lemmas.List.{length-take-le}
 use Rattle.std.proofs.lemmas.Bool.{cond-true, eqb-true, eq-eqb, lt-ltb, le-ltb}
 use Rattle.wire.specs.Frames.{Frame}
@@ -10,7 +10,7 @@ use Rattle.command.specs.declared.faults.ChainFault.{ChainFault}
 use Rattle.command.specs.declared.faults.ChainFault as chain
 use Rattle.command.specs.declared.faults.Fault.TheVariants.{Chain}
 use Rattle.command.specs.Answers.{bit}
-use Rattle.command.specs.Checks.{Check, NoChain, Toggle, NAgainstLen, SumOver, LastShort, OpenChain, closed, reading, writing, no_chain, found}
+use Rattle.command.specs.Checks.{Check, Toggle, NAgainstLen, SumOver, LastShort, writing, no_chain, found}
 use Rattle.command.specs.Decoding.{command_check, part_values, part_in}
 use Rattle.command.specs.Frames.{segment_write, verb, len, write_toggle, size, marked, part, room}
 use Rattle.port.specs.declared.segments.Joining.{Joining}

@@ -1,5 +1,5 @@
 -- What a frame leaves, by its verb and by the fault that the table finds.
-use Rattle.std.proofs.Common.{◌≡◌, ℕ, Bool, true, false, cond, List, [], ◌∷◌, ◌++◌, Some, None, Ok, Err, Option, Result, sym, refl, ap, ◌∙◌, arith}
+use Rattle.std.proofs.Common.{◌≡◌, ℕ, Bool, true, false, cond, Some, None, Ok, Err, Option, Result, sym, refl, ap, ◌∙◌, arith}
 use Rattle.wire.specs.Frames.{Frame}
 use Rattle.dictionary.specs.Objects.{Bytes, Objects}
 use Rattle.command.specs.declared.faults.Fault.{Fault}
@@ -9,7 +9,7 @@ use Rattle.command.specs.Commands.{by_fault, brings_back, chain_by, next_chain, 
 use Rattle.command.specs.Frames.{Verb, verb}
 use Rattle.port.specs.declared.states.State.{State}
 use Rattle.port.specs.Chains.{chain_of}
-use Rattle.port.specs.Serving.{Done, staged_by, frame_done, Leaves, left}
+use Rattle.port.specs.Serving.{staged_by, frame_done, Leaves, left}
 
 -- what the table says to a fault
 abbrev pub answered : {X : Type 0} → Option Check → X → Result X Fault

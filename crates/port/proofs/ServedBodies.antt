@@ -1,5 +1,5 @@
 -- A body carried out: the commands on one object, and what the guard leaves of the chain.
-use Rattle.std.proofs.Common.{◌≡◌, ℕ, Bool, true, false, cond, not, List, ◌++◌, Some, None, Ok, Err, Option, Result, sym, refl, ap, ◌∙◌, subst}
+use Rattle.std.proofs.Common.{◌≡◌, ℕ, Bool, true, false, cond, not, ◌++◌, Some, None, Ok, Err, Option, Result, sym, refl, ap, ◌∙◌, subst}
 use Rattle.wire.specs.declared.checked.Frame as code
 use Rattle.wire.specs.declared.faults.Fault as wire
 use Rattle.wire.specs.Checking.{Checks, checked_frame}
@@ -14,7 +14,7 @@ use Rattle.command.specs.declared.faults.CommandFault.{CommandFault}
 use Rattle.command.specs.declared.faults.Fault.{Fault}
 use Rattle.command.specs.declared.faults.Fault.TheVariants.{Wire, Command as Of-command}
 use Rattle.command.specs.Answers.{accepted_data}
-use Rattle.command.specs.Checks.{Check, OpenChain, closed, fault_of, fault, found, joined_of}
+use Rattle.command.specs.Checks.{Check, OpenChain, closed, fault, joined_of}
 use Rattle.command.specs.Commands.{Write, by_fault, brings_back, chain_by, writes, write_of, apply}
 use Rattle.command.specs.Decoding.{Is, Decodes, command_check, frame_of}
 use Rattle.command.specs.Frames.{Verb, read_object, initiate_read, write_object, initiate_write, segment_read, segment_write, unknown}
@@ -24,7 +24,7 @@ use Rattle.port.specs.declared.states.State.{State}
 use Rattle.port.specs.declared.states.State.TheVariants.{Closed}
 use Rattle.port.specs.Chains.{chain_of}
 use Rattle.port.specs.Objects.{EachFrame, by_table}
-use Rattle.port.specs.Serving.{Done, Leaves, Carried, left, leaves_chain, body_done, frame_done, staged_by, segment_fault}
+use Rattle.port.specs.Serving.{Leaves, Carried, left, leaves_chain, body_done, frame_done, staged_by, segment_fault}
 use Rattle.port.proofs.SegmentRows.{row_before}
 use Rattle.port.proofs.Served.{answered, leaves_by, goes_on, found_one}
 

@@ -1,14 +1,14 @@
 -- What a taken byte leaves, from what the receiver's step and the reply leave.
-use Rattle.std.proofs.Common.{◌≡◌, ℕ, ◌+◌, ◌-◌, ◌≤◌, List, [], ◌∷◌, ◌++◌, length, take, drop, Some, None, Ok, Option, sym, refl, ap, ◌∙◌, subst, arith, length-append}
+use Rattle.std.proofs.Common.{◌≡◌, ℕ, ◌-◌, ◌≤◌, length, take, drop, Some, None, Ok, Option, sym, refl, ap, ◌∙◌, arith, length-append}
 use Rattle.std.proofs.lemmas.List.{take_at}
 use Rattle.wire.specs.declared.receiving.Phase.{Phase}
 use Rattle.wire.specs.Checking.{checked_frame}
 use Rattle.wire.specs.Framing.{laid}
-use Rattle.wire.specs.Receiving.{Step, size, front, Took}
+use Rattle.wire.specs.Receiving.{Step, size, Took}
 use Rattle.dictionary.specs.Objects.{Bytes, Objects}
 use Rattle.command.specs.Checks.{OpenChain}
 use Rattle.port.specs.declared.ports.Reply.{Reply}
-use Rattle.port.specs.Ports.{Board, Called, call_result, received, replied, served, taken_call, Replies}
+use Rattle.port.specs.Ports.{Board, call_result, received, replied, served, taken_call, Replies}
 use Rattle.port.specs.Serving.{body_done}
 
 served_none : (node : ℕ) (b : Board) (o : Option Bytes) → None ≡ size o → served node b o ≡ call_result (Ok None) b

@@ -1,5 +1,5 @@
 -- What one complete body answers and leaves: the answer, the open chain, the objects and the staging memory. Assumes nothing.
-use Rattle.std.specs.Prelude.{◌≡◌, ℕ, Bool, true, false, cond, List, ◌++◌, None, Ok, Err, Option, Result}
+use Rattle.std.specs.Prelude.{◌≡◌, ℕ, Bool, true, false, cond, ◌++◌, None, Ok, Err, Option, Result}
 use Rattle.wire.specs.declared.faults.Fault as wire
 use Rattle.wire.specs.Frames.{Frame}
 use Rattle.wire.specs.Framing.{laid}

@@ -1,9 +1,9 @@
 -- A line cut at 4,097 characters says what the whole line says, since both are too long. Assumes nothing.
-use Rattle.std.proofs.Common.{◌≡◌, ℕ, zero, suc, ◌+◌, ◌<◌, ◌≤◌, ◌⊎◌, List, [], ◌∷◌, ◌++◌, length, take, set, sym, refl, ap, ◌∙◌, inl, inr, arith}
+use Rattle.std.proofs.Common.{◌≡◌, ℕ, zero, suc, ◌+◌, ◌<◌, ◌≤◌, List, [], ◌∷◌, ◌++◌, length, take, set, sym, refl, ap, ◌∙◌, inl, inr, arith}
 use Rattle.std.proofs.lemmas.List.{take_all, length-take-le, take_more_set, length_push, take-append-le}
 use Rattle.std.proofs.lemmas.Bool.{cases_lt}
 use Rattle.recording.specs.Lines.{kept}
-use Rattle.recording.specs.Meaning.{bad, spelling, meaning}
+use Rattle.recording.specs.Meaning.{bad, meaning}
 use Rattle.recording.proofs.Pairs.{long_bad, other_line}
 
 -- what was cut off does not come back

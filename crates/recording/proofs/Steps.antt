@@ -1,7 +1,6 @@
 -- One byte more is gathered and told as the lines of the input ask. Assumes nothing.
 use Rattle.std.proofs.Common.{◌≡◌, ℕ, ◌+◌, Bool, true, false, cond, not, eqb, List, [], ◌∷◌, ◌++◌, map, length, sym, refl, ap, ◌∙◌, subst, arith}
 use Rattle.std.proofs.lemmas.List.{append-nil, map-append, length-append}
-use Rattle.std.proofs.lemmas.Bool.{cond-true, cond-false, eq-eqb, ne_eqb}
 use Rattle.recording.specs.Gathering.{Held, numbered, beginning, ending, adding, taking, one, Told, Gathers}
 use Rattle.recording.specs.Lines.{lines, unended, kept}
 use Rattle.recording.specs.Meaning.{meaning}

@@ -1,5 +1,5 @@
 -- What passes is what a stretch adds to a report. Assumes nothing.
-use Rattle.std.proofs.Common.{◌≡◌, ℕ, ◌+◌, ◌-◌, ◌/◌, ◌<◌, ◌≤◌, cond, ltb, List, [], ◌∷◌, ◌++◌, length, get_or, take, drop, is_ok, Ok, Err, codes, Result, sym, refl, ap, ◌∙◌, subst, append_assoc, append-nil, arith}
+use Rattle.std.proofs.Common.{◌≡◌, ℕ, ◌-◌, ◌/◌, ◌≤◌, cond, ltb, List, [], ◌∷◌, ◌++◌, length, take, drop, is_ok, Ok, Err, codes, Result, sym, refl, ap, ◌∙◌, subst, append_assoc, append-nil, arith}
 use Rattle.std.proofs.lemmas.Bool.{cond-false, le-ltb}
 use Rattle.wire.specs.Framing.{body_of}
 use Rattle.wire.proofs.Frames.{body_length, frame_back, frame_laws_lem}

@@ -1,5 +1,5 @@
 -- Bytes as numbers and back, low byte first.
-use Rattle.std.proofs.Common.{◌≡◌, ℕ, zero, suc, ◌+◌, ◌-◌, ◌*◌, ◌/◌, ◌%◌, ◌^◌, ◌<◌, ◌≤◌, ◌⊎◌, List, [], ◌∷◌, length, get_or, take, sym, refl, ap, ◌∙◌, ap₂, inl, inr, arith}
+use Rattle.std.proofs.Common.{◌≡◌, ℕ, suc, ◌+◌, ◌*◌, ◌/◌, ◌%◌, ◌<◌, ◌⊎◌, [], ◌∷◌, length, get_or, take, refl, ap, ◌∙◌, ap₂, inl, inr, arith}
 use Rattle.dictionary.specs.Objects.{Bytes, unsigned_value}
 use Rattle.tables.specs.NumberTables.{low_bytes}
 

@@ -1,5 +1,5 @@
 -- The three calls at an address, by the object that it holds or by what is absent.
-use Rattle.std.proofs.Common.{◌≡◌, ℕ, ◌⊎◌, ◌++◌, length, drop, Some, None, Ok, Err, Option, Result, sym, refl, ap, ◌∙◌, ap₂, ⊎_elim, arith}
+use Rattle.std.proofs.Common.{◌≡◌, ℕ, ◌⊎◌, ◌++◌, length, drop, Some, None, Ok, Err, Option, sym, refl, ap, ◌∙◌, ap₂, ⊎_elim, arith}
 use Rattle.dictionary.specs.declared.Address.{Address}
 use Rattle.dictionary.specs.declared.Fault.{Fault}
 use Rattle.dictionary.specs.declared.Fault.TheVariants.{NoIndex, NoSubindex}

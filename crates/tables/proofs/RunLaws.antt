@@ -9,7 +9,7 @@ use Rattle.dictionary.specs.declared.Address.{Address}
 use Rattle.dictionary.specs.declared.Fault.{Fault}
 use Rattle.dictionary.specs.declared.Look.{Look}
 use Rattle.dictionary.specs.declared.Shape.TheVariants.{Run}
-use Rattle.dictionary.specs.Objects.{Bytes, Object, Objects, look, present, put, ShapeAllowed}
+use Rattle.dictionary.specs.Objects.{Bytes, look, present, put, ShapeAllowed}
 use Rattle.dictionary.specs.Checks.{write_fault}
 use Rattle.dictionary.specs.Calls.{answer, leaves, look_answer, after_write}
 use Rattle.dictionary.proofs.Words.{admitted}

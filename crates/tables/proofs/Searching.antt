@@ -1,12 +1,12 @@
 -- A search, record by record: what is known of the records that were passed, and what follows where it ends.
-use Rattle.std.proofs.Common.{◌≡◌, ℕ, ◌+◌, ◌-◌, ◌<◌, ◌≤◌, min, Bool, true, false, ◌⊎◌, List, length, get_or, take, Some, None, Option, sym, refl, ap, ◌∙◌, subst, ap₂, inl, inr, ⊎_elim, arith, take_all}
+use Rattle.std.proofs.Common.{◌≡◌, ℕ, ◌+◌, ◌-◌, ◌<◌, ◌≤◌, min, Bool, true, false, List, length, get_or, take, Some, Option, sym, refl, ap, ◌∙◌, subst, inl, inr, ⊎_elim, arith, take_all}
 use Rattle.std.proofs.lemmas.Option.{slice_get_read, slice_get_past}
 use Rattle.std.proofs.lemmas.List.Sums.{sum_by_more}
 use Rattle.std.proofs.lemmas.Bool.{cases_lt, cases_eq, true≢false}
 use Rattle.std.specs.List.{slice_get}
 use Rattle.dictionary.specs.declared.Address.{Address}
 use Rattle.dictionary.specs.declared.Fault.TheVariants.{NoIndex, NoSubindex}
-use Rattle.tables.specs.Tables.{Key, place_of, Counts, Meant, Located, IndexKnown, NoneMeant, Absent}
+use Rattle.tables.specs.Tables.{Key, place_of, Counts, Located, IndexKnown, NoneMeant, Absent}
 
 -- a part from the start that is cut at a length or a limit, whichever is less
 pub take_min : {X : Type 0} (xs : List X) (m n : ℕ) → m ≡ min (length xs) n → take (m - 0) xs ≡ take n xs

@@ -1,16 +1,16 @@
 -- What a table means at an address, by the record that is meant, and what it means after a write to that record.
-use Rattle.std.proofs.Common.{◌≡◌, ℕ, zero, suc, ◌+◌, ◌<◌, ◌≤◌, Bool, true, false, cond, ◌&&◌, ◌||◌, eqb, ◌⊎◌, List, [], ◌∷◌, length, get_or, take, set, Some, None, Option, sym, refl, ap, ◌∙◌, subst, ap₂, inl, inr, ⊎_elim, arith}
+use Rattle.std.proofs.Common.{◌≡◌, ℕ, zero, suc, ◌+◌, ◌<◌, ◌≤◌, Bool, true, false, cond, ◌&&◌, ◌||◌, eqb, ◌⊎◌, List, [], ◌∷◌, length, get_or, take, set, Some, None, sym, refl, ap, ◌∙◌, subst, ap₂, inl, inr, ⊎_elim, arith}
 use mathlib.Core.Path.{fun_ext}
 use Rattle.std.proofs.lemmas.Option.{slice_get-get_or, slice_get_past}
 use Rattle.std.proofs.lemmas.List.Sums.{sum_by-cons}
-use Rattle.std.proofs.lemmas.Bool.{cond-true, cond-false, and_from, and_parts, and_left, eq-eqb, eqb-true, cases_Bool, cases_lt, both_ways, or_left, or_right, or_from}
+use Rattle.std.proofs.lemmas.Bool.{cond-true, cond-false, and_from, and_parts, and_left, eq-eqb, eqb-true, cases_Bool, cases_lt, both_ways, or_left, or_right}
 use Rattle.std.specs.List.{slice_get}
 use Rattle.dictionary.specs.declared.Address.{Address}
 use Rattle.dictionary.specs.declared.Fault.{Fault}
 use Rattle.dictionary.specs.declared.Fault.TheVariants.{NoIndex, NoSubindex}
 use Rattle.dictionary.specs.Objects.{Bytes, Object, Objects, no_index, no_subindex, present, look, value, put, put_under, with_value}
 use Rattle.tables.specs.declared.search.Found.{Found}
-use Rattle.tables.specs.Tables.{Key, place_of, Counts, Meant, Located, NoneMeant, Absent, Row, rows_from, has_index, first_at, table}
+use Rattle.tables.specs.Tables.{Key, place_of, Counts, Located, Absent, Row, rows_from, has_index, first_at, table}
 use Rattle.tables.proofs.Searching.{same_address}
 
 clash : {X : Type 0} → ◌≡◌ {A = ℕ} 0 1 → X

@@ -1,13 +1,12 @@
 -- Proof terms, not definitions: every table of numbers or runs is sound. They stand here because the ghost member
 -- `sound` of Numbers and Runs cites them.
 -- Assumes nothing.
-use Rattle.std.specs.Prelude.{◌≡◌, ℕ, zero, suc, ◌+◌, ◌/◌, ◌≤◌, Bool, true, false, cond, ◌&&◌, ◌||◌, ◌⊎◌, List, [], ◌∷◌, length, take, drop, Some, None, Option, ◌==◌, nat_eq, nat_le, refl}
+use Rattle.std.specs.Prelude.{◌≡◌, ℕ, zero, suc, ◌+◌, ◌/◌, ◌≤◌, true, false, ◌&&◌, ◌||◌, ◌⊎◌, List, [], ◌∷◌, length, take, drop, Some, None, Option, ◌==◌, nat_eq, nat_le, refl}
 use Rattle.std.proofs.Common.{inl, inr, ⊎_elim, sym, ap, subst, ◌∙◌, arith, length-take, length-drop}
 use Rattle.std.proofs.lemmas.Bool.{cases_Bool, and_parts, or_cases, eqb-true, eq-eqb, leb-true, and_from, cond-true, cond-false}
 use Rattle.dictionary.specs.declared.Access.{Access}
-use Rattle.dictionary.specs.declared.Address.{Address}
 use Rattle.dictionary.specs.declared.Shape.{Shape}
-use Rattle.dictionary.specs.Objects.{Bytes, Object, Objects, Sound, entry_of, value_of, look, value, present, ShapeAllowed, LengthAllowed}
+use Rattle.dictionary.specs.Objects.{Bytes, Object, Sound, entry_of, value_of, present, ShapeAllowed, LengthAllowed}
 use Rattle.tables.specs.declared.numbers.NumberRecord.{NumberRecord}
 use Rattle.tables.specs.declared.runs.RunRecord.{RunRecord}
 use Rattle.tables.specs.Tables.{Key, Row, rows_from, has_index, first_at, table, front}

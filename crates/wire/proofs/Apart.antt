@@ -1,12 +1,11 @@
 -- A body taken apart by its ends, and when that gives a frame.
-use Rattle.std.proofs.Common.{◌≡◌, ℕ, ◌+◌, ◌-◌, ◌*◌, ◌/◌, ◌%◌, ◌<◌, ◌≤◌, true, false, cond, ◌⊎◌, List, [], ◌∷◌, ◌++◌, length, get_or, take, drop, Ok, Err, Result, sym, refl, ap, ◌∙◌, subst, inl, inr, arith, length-append, length-drop}
+use Rattle.std.proofs.Common.{◌≡◌, ℕ, ◌+◌, ◌-◌, ◌*◌, ◌/◌, ◌%◌, ◌<◌, ◌≤◌, List, [], ◌∷◌, ◌++◌, length, get_or, take, drop, Ok, Err, Result, sym, refl, ap, ◌∙◌, inl, inr, arith, length-drop}
 use Rattle.std.proofs.lemmas.Nat.{mod-mul-add, div-mul-add}
-use Rattle.std.proofs.lemmas.List.{take_at, take_rest, take-append-drop, drop_more, drop_all, get_or-take, get_or-append_right, length-take-le}
+use Rattle.std.proofs.lemmas.List.{take_at, take_rest, take-append-drop, drop_more, drop_all, get_or-append_right, length-take-le}
 use Rattle.std.proofs.lemmas.Bool.{cases_Bool, cond-true, cond-false}
 use Rattle.wire.specs.declared.faults.Fault.{Fault}
 use Rattle.wire.specs.declared.faults.Fault.TheVariants.{Checksum}
-use Rattle.wire.specs.declared.checked.Frame as code
-use Rattle.wire.specs.Checking.{OfNoFrame, Checks, shown, frame_in, fits, checked_frame, Computed}
+use Rattle.wire.specs.Checking.{OfNoFrame, frame_in, fits, checked_frame, Computed}
 use Rattle.wire.specs.Checksum.{checksum_of}
 use Rattle.wire.specs.Frames.{Frame, Even, body}
 use Rattle.wire.specs.Framing.{low_high, header, body_of}

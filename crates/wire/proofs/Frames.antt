@@ -1,5 +1,5 @@
 -- What a stretch hears, frame by frame.
-use Rattle.std.proofs.Common.{◌≡◌, ℕ, suc, ◌+◌, ◌-◌, ◌*◌, ◌/◌, ◌%◌, Bool, true, false, cond, not, ◌&&◌, eqb, ◌⊎◌, List, [], ◌∷◌, ◌++◌, length, get_or, take, drop, sym, refl, ap, ◌∙◌, subst, inl, inr, append_assoc, append-nil, arith, length-append}
+use Rattle.std.proofs.Common.{◌≡◌, ℕ, ◌+◌, ◌-◌, ◌%◌, true, false, not, ◌&&◌, eqb, List, [], ◌∷◌, ◌++◌, length, get_or, take, sym, refl, ap, ◌∙◌, subst, inl, inr, append_assoc, arith, length-append}
 use mathlib.Core.List.{append_cancel_right}
 use Rattle.std.specs.List.{flat_map}
 use Rattle.std.proofs.lemmas.List.{take_at}
@@ -8,7 +8,7 @@ use Rattle.wire.specs.Checksum.{checksum_of}
 use Rattle.wire.specs.Framing.{body_of, header, low_high}
 use Rattle.wire.specs.Checking.{frame_in, same_bytes, fits}
 use Rattle.wire.specs.Frames.{Frame, Even, written, Heard, Damaged, OneFrame, ReadsBack, Carried, NextFrames, FirstLost, HeardOrDamaged, FrameLaws}
-use Rattle.wire.specs.Line.{stuff, Open, Marked, Complete, Completes, framed}
+use Rattle.wire.specs.Line.{stuff, Complete, Completes, framed}
 use Rattle.wire.proofs.Hearing.{one_body, resumes, frame_carried}
 use Rattle.wire.proofs.Parity.{parity, parity_append, open_parity}
 

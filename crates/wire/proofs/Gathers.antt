@@ -1,10 +1,10 @@
 -- What one step of the receiver leaves in the memory. Assumes nothing.
-use Rattle.std.proofs.Common.{◌≡◌, ℕ, zero, suc, ◌+◌, ◌*◌, ◌<◌, ◌≤◌, Bool, true, false, cond, leb, ◌⊎◌, List, [], ◌∷◌, ◌++◌, length, get_or, take, drop, set, Some, None, Option, sym, refl, ap, ◌∙◌, subst, inl, inr, append_assoc, append-nil, arith}
-use Rattle.std.proofs.lemmas.List.{take_more_set, set_split, length_push, length-take-le, get_or-take, take-append-drop}
+use Rattle.std.proofs.Common.{◌≡◌, ℕ, suc, ◌+◌, ◌*◌, ◌<◌, ◌≤◌, true, false, cond, List, [], ◌∷◌, ◌++◌, length, get_or, take, drop, set, Some, None, sym, refl, ap, ◌∙◌, subst, inl, inr, append_assoc, arith}
+use Rattle.std.proofs.lemmas.List.{take_more_set, set_split, length_push, length-take-le, get_or-take}
 use Rattle.std.proofs.lemmas.Bool.{le-leb, lt-leb, cases_lt}
 use Rattle.wire.specs.declared.receiving.Phase.{Phase}
-use Rattle.wire.specs.declared.receiving.Phase.TheVariants.{Hunting, PastMark, OpenDle}
-use Rattle.wire.specs.Receiving.{Step, moves, whole, completed, gathering, step, front, size, Took}
+use Rattle.wire.specs.declared.receiving.Phase.TheVariants.{Hunting, PastMark}
+use Rattle.wire.specs.Receiving.{moves, whole, completed, gathering, Took}
 
 module _ (m : List ℕ) (n b : ℕ) (inside : n < length m) where
   abbrev bytes : List ℕ

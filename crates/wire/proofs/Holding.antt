@@ -1,13 +1,13 @@
 -- What the receiver's steps hold of a stretch is what the words say.
-use Rattle.std.proofs.Common.{◌≡◌, ℕ, suc, ◌+◌, ◌*◌, ◌<◌, ◌≤◌, Bool, true, false, cond, not, eqb, leb, ◌⊎◌, List, [], ◌∷◌, ◌++◌, length, get_or, take, sym, refl, ap, ◌∙◌, subst, inl, inr, append_assoc, append-nil, arith, length-append}
+use Rattle.std.proofs.Common.{◌≡◌, ℕ, ◌+◌, ◌*◌, ◌<◌, ◌≤◌, Bool, true, false, List, [], ◌∷◌, ◌++◌, length, get_or, take, sym, refl, ap, ◌∙◌, subst, inl, inr, append_assoc, append-nil, arith, length-append}
 use Rattle.std.proofs.lemmas.List.{get_or_append_left, get_or-take, length-take-le}
-use Rattle.std.proofs.lemmas.Bool.{true≢false, leb-false, lt-leb, cases_lt, cond-false}
+use Rattle.std.proofs.lemmas.Bool.{true≢false, lt-leb, cases_lt, cond-false}
 use Rattle.wire.specs.declared.receiving.Phase.{Phase}
 use Rattle.wire.specs.declared.receiving.Phase.TheVariants.{Hunting, PastMark, OpenDle}
-use Rattle.wire.specs.Line.{stuff, Open, Marked, Complete}
-use Rattle.wire.specs.Receiving.{Step, moves, whole, completed, gathering, step}
+use Rattle.wire.specs.Line.{stuff, Open, Complete}
+use Rattle.wire.specs.Receiving.{moves, whole, completed}
 use Rattle.wire.specs.Holding.{Gathers, GathersOpen, Holds}
-use Rattle.wire.proofs.Hearing.{steps_append, opens, step_opens, steps_opens, marked, one_more, Text, Sofar, Known, known}
+use Rattle.wire.proofs.Hearing.{steps_append, opens, steps_opens, marked, one_more, Text, Sofar, known}
 use Rattle.wire.proofs.Steps.{steps, after}
 use Rattle.wire.proofs.Parity.{parity, open_parity, parity_open}
 

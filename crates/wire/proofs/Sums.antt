@@ -1,7 +1,6 @@
 -- The steps of the checksum's loops, and its bound.
-use Rattle.std.proofs.Common.{◌≡◌, ℕ, zero, suc, ◌+◌, ◌-◌, ◌*◌, ◌/◌, ◌%◌, ◌^◌, ◌<◌, ◌≤◌, true, false, cond, ltb, List, [], ◌∷◌, ◌++◌, length, get_or, take, drop, sym, refl, ap, ◌∙◌, subst, arith, lit<}
+use Rattle.std.proofs.Common.{◌≡◌, ℕ, zero, suc, ◌+◌, ◌-◌, ◌*◌, ◌/◌, ◌%◌, ◌^◌, ◌<◌, ◌≤◌, true, false, cond, ltb, List, [], ◌∷◌, ◌++◌, length, get_or, drop, refl, ap, ◌∙◌, arith, lit<}
 use lib.Bits.{bit_xor, xor_lt}
-use Rattle.std.proofs.lemmas.List.{take_all}
 use Rattle.wire.specs.Checksum.{shifted, takes, register, words, checksum_of}
 
 pub takes_none : (w r : ℕ) → takes 0 w r ≡ r

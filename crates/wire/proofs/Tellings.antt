@@ -1,5 +1,5 @@
 -- From what a step leaves to what a call promises of it.
-use Rattle.std.proofs.Common.{◌≡◌, ℕ, ◌+◌, ◌≤◌, Bool, true, false, cond, eqb, ltb, List, [], ◌∷◌, ◌++◌, length, take, drop, Some, None, Ok, Option, sym, refl, ap, ◌∙◌, subst, arith, length-append}
+use Rattle.std.proofs.Common.{◌≡◌, ℕ, ◌≤◌, true, false, cond, eqb, ltb, List, [], ◌∷◌, ◌++◌, length, take, drop, Some, None, Ok, Option, sym, refl, ap, ◌∙◌, subst, arith, length-append}
 use Rattle.std.proofs.lemmas.List.{take_at}
 use Rattle.std.proofs.lemmas.Bool.{le-ltb, cond-false}
 use Rattle.wire.specs.declared.receiving.Phase.{Phase}
@@ -7,7 +7,7 @@ use Rattle.wire.specs.declared.receiving.Phase.TheVariants.{Hunting, PastMark, O
 use Rattle.wire.specs.Framing.{laid}
 use Rattle.wire.specs.Holding.{Holds, Tells}
 use Rattle.wire.specs.Line.{Completes}
-use Rattle.wire.specs.Receiving.{Step, moves, whole, completed, gathering, step, front, size, Took, Outcome, outcome, received}
+use Rattle.wire.specs.Receiving.{Step, moves, whole, completed, gathering, step, front, size, Took, outcome, received}
 use Rattle.wire.proofs.Hearing.{steps_append, heard, reported}
 use Rattle.wire.proofs.Holding.{fold_holds, holds_fold}
 use Rattle.wire.proofs.Steps.{after}

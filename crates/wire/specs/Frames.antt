@@ -1,5 +1,5 @@
 -- Frames on the cable: what a stretch hears, and where it ends in a damaged body. Assumes nothing.
-use Rattle.std.specs.Prelude.{◌≡◌, ℕ, ◌%◌, ◌<◌, List, [], ◌∷◌, ◌++◌, length, ◌≢◌, slice_index}
+use Rattle.std.specs.Prelude.{◌≡◌, ℕ, ◌%◌, ◌<◌, List, [], ◌++◌, length, ◌≢◌, slice_index}
 use Rattle.std.specs.List.{flat_map}
 use Rattle.wire.specs.Framing.{body_of}
 use Rattle.wire.specs.Line.{Open, Completes, framed}

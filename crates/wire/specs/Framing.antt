@@ -1,5 +1,5 @@
 -- How a frame is written. Assumes nothing.
-use Rattle.std.specs.Prelude.{◌≡◌, ℕ, ◌+◌, ◌/◌, ◌%◌, Bool, cond, not, ◌||◌, List, [], ◌∷◌, ◌++◌, length, take, drop, Ok, Err, Result, ◌==◌, nat_lt}
+use Rattle.std.specs.Prelude.{◌≡◌, ℕ, ◌/◌, ◌%◌, Bool, cond, not, ◌||◌, List, [], ◌∷◌, ◌++◌, length, take, drop, Ok, Err, Result, ◌==◌, nat_lt}
 use Rattle.wire.specs.declared.faults.Refusal.{Refusal}
 use Rattle.wire.specs.declared.faults.Refusal.TheVariants.{WriteMemory, DataLength}
 use Rattle.wire.specs.Checksum.{checksum_of}

@@ -1,6 +1,6 @@
-use Rattle.std.proofs.Common.{◌≡◌, ℕ, true, sym, refl, ap, ◌∙◌, rules}
+use Rattle.std.proofs.Common.{◌≡◌, ℕ, true, sym, refl, ◌∙◌, rules}
 use Rattle.wire.specs.Frames.{Frame}
-use Rattle.command.specs.Frames.{verb, verb_of, read_object, initiate_read, write_object, initiate_write, segment_read, segment_write, unknown, LenFits}
+use Rattle.command.specs.Frames.{verb, verb_of, unknown, LenFits}
 use Rattle.command.specs.Checks.{Node, concerns}
 use Rattle.command.specs.Decoding.{frame_of}
 use Rattle.command.proofs.Decoding.{verb_is, passed_len, unknown_refused, number_is, declared_is, payload_is, four_behind}

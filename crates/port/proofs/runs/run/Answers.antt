@@ -1,5 +1,5 @@
-use Rattle.std.proofs.Common.{length, get_or, arith}
-use Rattle.port.proofs.Running.{begins, continues, ends, opened_node, not_opened}
+use Rattle.std.proofs.Common.{length, arith}
+use Rattle.port.proofs.Running.{begins, continues, ends, opened_node}
 use Rattle.port.proofs.runs.run.Goals as goal
 
 pub loop-step-init : goal.loop-step-init

@@ -1,4 +1,4 @@
-use Rattle.std.proofs.Common.{◌≡◌, ◌≤◌, length, Err, sym, refl, ap, ◌∙◌, rules}
+use Rattle.std.proofs.Common.{◌≡◌, ◌≤◌, length, Err, refl, ap, rules}
 use Rattle.command.specs.declared.faults.Fault.TheVariants.{Chain}
 use Rattle.port.specs.Serving.{shown_answer}
 use Rattle.port.proofs.SegmentRows.{same_turn}

@@ -1,4 +1,4 @@
-use Rattle.std.proofs.Common.{◌≡◌, ℕ, ◌+◌, ◌-◌, ◌≤◌, not, length, take, Err, sym, refl, ap, ◌∙◌, arith, rules}
+use Rattle.std.proofs.Common.{◌≡◌, ℕ, ◌+◌, ◌-◌, ◌≤◌, not, length, Err, refl, ap, ◌∙◌, arith, rules}
 use Rattle.command.specs.declared.faults.Fault.TheVariants.{Chain, Dictionary}
 use Rattle.port.specs.declared.states.State.TheVariants.{Writing}
 use Rattle.port.specs.Chains.{held_by}

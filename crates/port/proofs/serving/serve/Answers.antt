@@ -1,4 +1,4 @@
-use Rattle.std.proofs.Common.{◌≡◌, ℕ, not, Ok, Err, sym, refl, ap, ◌∙◌, rules}
+use Rattle.std.proofs.Common.{◌≡◌, ℕ, not, Err, ap, ◌∙◌, rules}
 use Rattle.command.specs.declared.faults.Fault.TheVariants.{Wire, Command}
 use Rattle.command.specs.Decoding.{frame_of}
 use Rattle.command.specs.Frames.{verb_of, of_chain}

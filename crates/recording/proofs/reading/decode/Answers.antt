@@ -1,5 +1,5 @@
 -- Each turn takes two characters and writes one byte.
-use Rattle.std.proofs.Common.{◌≡◌, ◌+◌, ◌-◌, ◌*◌, ◌<◌, ◌≤◌, [], length, take, drop, set, sym, refl, ap, ◌∙◌, arith, length-drop, length-set, rules}
+use Rattle.std.proofs.Common.{◌+◌, ◌*◌, ◌<◌, ◌≤◌, length, take, set, sym, refl, ap, ◌∙◌, arith, length-drop, length-set, rules}
 use Rattle.std.proofs.lemmas.List.{take_rest}
 use Rattle.recording.specs.Meaning.{pairs}
 use Rattle.recording.proofs.Pairs.{after, after_none, decoded_more, undecoded_more, decoded_all}

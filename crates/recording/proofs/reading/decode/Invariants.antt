@@ -1,5 +1,5 @@
 -- The bytes so far, and those of what is left, are those of the whole text; the rest of the memory is as it was.
-use Rattle.std.proofs.Common.{◌≡◌, ◌+◌, ◌*◌, ◌≤◌, length, take, drop}
+use Rattle.std.proofs.Common.{◌≡◌, ◌+◌, ◌*◌, length, take, drop}
 use Rattle.recording.specs.Meaning.{pairs}
 use Rattle.recording.proofs.Pairs.{after}
 use Rattle.recording.proofs.reading.decode.Given as goal

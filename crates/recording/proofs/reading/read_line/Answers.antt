@@ -1,6 +1,6 @@
 -- A line that is neither empty nor S alone is spelled in digit pairs.
-use Rattle.std.proofs.Common.{◌≡◌, ◌<◌, ◌≤◌, length, get_or, sym, ap, ◌∙◌, arith, rules}
-use Rattle.recording.specs.Meaning.{meaning, spelling, telling}
+use Rattle.std.proofs.Common.{◌≡◌, ◌<◌, ◌≤◌, length, get_or, sym, ap, ◌∙◌, rules}
+use Rattle.recording.specs.Meaning.{telling}
 use Rattle.recording.proofs.Pairs.{other_line}
 use Rattle.recording.proofs.reading.read_line.Goals as goal
 

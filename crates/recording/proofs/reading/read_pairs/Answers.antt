@@ -1,5 +1,5 @@
 -- A text that is too long, or no digit pairs, is bad; any other is decoded.
-use Rattle.std.proofs.Common.{◌≡◌, sym, arith}
+use Rattle.std.proofs.Common.{sym}
 use Rattle.recording.proofs.Pairs.{long_bad, other_bad, tell_bad, tell_bytes}
 use Rattle.recording.proofs.reading.read_pairs.Goals as goal
 use Rattle.recording.proofs.reading.read_pairs.Goals.{then-text-gt-LONGEST_LINE-via-then-text-gt-LONGEST_LINE, then-text-gt-LONGEST_LINE-via-else-text-gt-LONGEST_LINE+then-not-are_pairs}

@@ -1,5 +1,5 @@
 -- Each digit is one byte of the text, and there is room for both.
-use Rattle.std.proofs.Common.{◌≡◌, ℕ, ◌+◌, ◌/◌, ◌%◌, ◌<◌, ◌≤◌, true, List, [], ◌∷◌, ◌++◌, length, get_or, is_ok, string_bytes, string_len, string_capacity, sym, ap, ◌∙◌, subst, arith}
+use Rattle.std.proofs.Common.{◌≡◌, ℕ, ◌+◌, ◌/◌, ◌%◌, ◌<◌, true, [], ◌∷◌, ◌++◌, length, get_or, is_ok, string_bytes, string_len, sym, ap, ◌∙◌, subst, arith}
 use lib.Utf8.{encode}
 use Rattle.std.proofs.lemmas.Bool.{cond-true}
 use Rattle.recording.specs.Spelling.{upper_digits, spelled_byte}

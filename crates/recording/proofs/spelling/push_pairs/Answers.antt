@@ -1,5 +1,5 @@
 -- One byte more adds its two digits.
-use Rattle.std.proofs.Common.{◌≡◌, List, ◌++◌, get_or, take, string_bytes, sym, ap, ◌∙◌, arith, rules}
+use Rattle.std.proofs.Common.{◌++◌, get_or, take, string_bytes, sym, ap, ◌∙◌, arith, rules}
 use Rattle.std.proofs.lemmas.List.{flat_map_more, take_more, take_all}
 use Rattle.recording.specs.Spelling.{spelled_byte, spelled_bytes}
 use Rattle.recording.proofs.Digits.{all_read_back}

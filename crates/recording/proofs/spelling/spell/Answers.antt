@@ -1,4 +1,4 @@
-use Rattle.std.proofs.Common.{◌≡◌, ℕ, ◌<◌, List, [], ◌∷◌, ap, ◌∙◌, arith}
+use Rattle.std.proofs.Common.{◌≡◌, ◌<◌, [], ◌∷◌, ap, ◌∙◌, arith}
 use Rattle.recording.specs.Meaning.{pairs}
 use Rattle.recording.specs.Spelling.{spelled_byte}
 use Rattle.recording.proofs.Digits.{reads_back}

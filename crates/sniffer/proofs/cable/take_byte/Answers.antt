@@ -1,4 +1,4 @@
-use Rattle.std.proofs.Common.{List, [], ◌∷◌, ◌++◌}
+use Rattle.std.proofs.Common.{[], ◌∷◌, ◌++◌}
 use Rattle.sniffer.specs.Adding.{reported}
 use Rattle.sniffer.proofs.Adding.{adds_or_stays}
 use Rattle.sniffer.proofs.cable.take_byte.Goals as goal

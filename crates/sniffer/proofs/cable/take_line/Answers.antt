@@ -1,5 +1,5 @@
 -- Each kind of line.
-use Rattle.std.proofs.Common.{◌≡◌, ℕ, ◌-◌, List, [], take, sym, refl, ap, ◌∙◌, subst, arith}
+use Rattle.std.proofs.Common.{ℕ, [], take, sym, refl, subst}
 use Rattle.recording.specs.declared.reading.Line.{Line}
 use Rattle.wire.specs.declared.receiving.Phase.{Phase}
 use Rattle.wire.specs.declared.receiving.Phase.TheVariants.{Hunting}

@@ -1,4 +1,4 @@
-use Rattle.std.proofs.Common.{◌≡◌, take, sym, ◌∙◌, subst}
+use Rattle.std.proofs.Common.{take, sym, ◌∙◌, subst}
 use Rattle.wire.specs.Line.{Complete, Completes}
 use Rattle.wire.proofs.Frames.{complete_even}
 use Rattle.sniffer.proofs.passing.judge.Goals as goal

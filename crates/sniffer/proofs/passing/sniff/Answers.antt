@@ -1,4 +1,4 @@
-use Rattle.std.proofs.Common.{List, [], ◌∷◌, ◌++◌, Ok, subst}
+use Rattle.std.proofs.Common.{[], ◌∷◌, ◌++◌, Ok, subst}
 use Rattle.wire.specs.Holding.{Tells}
 use Rattle.sniffer.proofs.passing.sniff.Goals as goal
 

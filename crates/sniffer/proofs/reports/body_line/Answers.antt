@@ -1,5 +1,5 @@
 -- The five parts of the line, one after another.
-use Rattle.std.proofs.Common.{◌≡◌, ◌-◌, ◌≤◌, List, [], ◌∷◌, ◌++◌, length, get_or, take, drop, string_bytes, codes, refl, ◌∙◌, rules}
+use Rattle.std.proofs.Common.{◌-◌, ◌≤◌, [], ◌∷◌, ◌++◌, length, get_or, take, drop, string_bytes, codes, refl, ◌∙◌, rules}
 use Rattle.recording.specs.Spelling.{spelled_byte, spelled_bytes}
 use Rattle.sniffer.proofs.Appending.{five, inner, parts_of_body}
 use Rattle.sniffer.proofs.reports.body_line.Goals as goal

@@ -1,5 +1,5 @@
 -- The records that were passed are not meant; so the first that matches is, and if none does, none is.
-use Rattle.std.proofs.Common.{◌≡◌, ℕ, ◌-◌, true, false, List, length, take, Ok, Err, sym, refl, ap, ◌∙◌, subst, arith, length-take, rules}
+use Rattle.std.proofs.Common.{◌-◌, sym, ap, ◌∙◌, subst, arith, length-take}
 use Rattle.std.proofs.lemmas.Bool.{true≢false}
 use Rattle.dictionary.specs.declared.Fault.TheVariants.{NoIndex, NoSubindex}
 use Rattle.tables.specs.Tables.{Located, Absent}

@@ -1,4 +1,4 @@
-use Rattle.std.proofs.Common.{◌≡◌, ◌-◌, ◌*◌, ◌<◌, ◌≤◌, length, get_or, sym, ◌∙◌, arith, rules}
+use Rattle.std.proofs.Common.{◌≡◌, ◌*◌, ◌<◌, ◌≤◌, length, get_or, sym, ◌∙◌, arith, rules}
 use Rattle.wire.specs.Frames.{Even}
 use Rattle.wire.proofs.Apart.{front, mid, front_length, fitting, long_is, full_is, sum_is}
 use Rattle.wire.proofs.checked.split.Goals as goal

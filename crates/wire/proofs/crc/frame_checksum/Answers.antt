@@ -1,6 +1,6 @@
-use Rattle.std.proofs.Common.{◌∷◌, sym, ap, ◌∙◌}
+use Rattle.std.proofs.Common.{sym, ap, ◌∙◌}
 use Rattle.wire.specs.Checksum.{takes, register, words}
-use Rattle.wire.proofs.Sums.{sum_is, frame_sum}
+use Rattle.wire.proofs.Sums.{frame_sum}
 use Rattle.wire.proofs.crc.frame_checksum.Goals as goal
 
 pub returns : goal.returns

@@ -1,4 +1,4 @@
-use Rattle.std.proofs.Common.{sym, ◌∙◌, arith}
+use Rattle.std.proofs.Common.{arith}
 use Rattle.wire.proofs.Laying.{stuff_length}
 use Rattle.wire.proofs.Parts.{parts_length}
 use Rattle.wire.proofs.framing.framed_len.Goals as goal

@@ -1,6 +1,5 @@
-use Rattle.std.proofs.Common.{◌≡◌, ◌+◌, ◌≤◌, [], ◌∷◌, ◌++◌, length, take, sym, ap, ◌∙◌, arith}
+use Rattle.std.proofs.Common.{◌+◌, ◌++◌, length, take, ap, ◌∙◌, arith}
 use Rattle.wire.specs.Framing.{laid}
-use Rattle.wire.specs.Line.{stuff}
 use Rattle.wire.proofs.Laying.{put_one, put_two, stuff_other, stuff_dle, stuff_some}
 use Rattle.wire.proofs.framing.put.Goals as goal
 

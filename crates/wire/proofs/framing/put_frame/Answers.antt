@@ -1,4 +1,4 @@
-use Rattle.std.proofs.Common.{◌≡◌, ◌≤◌, length, set, arith, length-set}
+use Rattle.std.proofs.Common.{◌≤◌, length, set, arith, length-set}
 use Rattle.wire.proofs.Parts.{parts_length, frame_length, frame_laid}
 use Rattle.wire.proofs.framing.put_frame.Goals as goal
 

@@ -1,4 +1,4 @@
-use Rattle.std.proofs.Common.{◌≡◌, ◌+◌, ◌≤◌, [], ◌∷◌, length, get_or, take, ap, ◌∙◌, arith}
+use Rattle.std.proofs.Common.{length, get_or, take, ap, ◌∙◌, arith}
 use Rattle.std.proofs.lemmas.List.{take_all, length-take-le}
 use Rattle.wire.specs.Line.{stuff}
 use Rattle.wire.proofs.Laying.{stuff_next_length, stuff_length, stuff_other, stuff_dle}

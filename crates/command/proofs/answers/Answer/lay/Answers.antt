@@ -1,4 +1,4 @@
-use Rattle.std.proofs.Common.{◌≡◌, length, Ok, ap, ◌∙◌}
+use Rattle.std.proofs.Common.{length, Ok, ap, ◌∙◌}
 use Rattle.wire.specs.Framing.{body_of, laid, laying}
 use Rattle.wire.specs.Line.{framed}
 use Rattle.command.proofs.Fitting.{suffices}

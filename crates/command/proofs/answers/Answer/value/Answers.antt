@@ -1,4 +1,4 @@
-use Rattle.std.proofs.Common.{◌≡◌, replicate, sym, ◌∙◌}
+use Rattle.std.proofs.Common.{replicate}
 use Rattle.dictionary.specs.Checks.{read_fault}
 use Rattle.dictionary.specs.Objects.{Objects, look, value}
 use Rattle.dictionary.proofs.Words.{readable}

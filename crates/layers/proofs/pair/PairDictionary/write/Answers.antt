@@ -1,4 +1,4 @@
-use Rattle.std.proofs.Common.{◌≡◌, ℕ, Ok, Err, sym, ◌∙◌, arith, rules}
+use Rattle.std.proofs.Common.{◌≡◌, ℕ, Err, ◌∙◌, arith, rules}
 use Rattle.dictionary.specs.declared.Fault.TheVariants.{NoIndex}
 use Rattle.dictionary.specs.Calls.{write_answer}
 use Rattle.layers.proofs.LayerLaws.{by_second, by_first}

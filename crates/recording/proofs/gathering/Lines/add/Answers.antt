@@ -1,5 +1,5 @@
 -- A character is written after those that are kept, while there is room.
-use Rattle.std.proofs.Common.{◌≡◌, length, arith, rules}
+use Rattle.std.proofs.Common.{◌≡◌, length, rules}
 use Rattle.recording.proofs.Kept.{keeps_more, keeps_all}
 use Rattle.recording.proofs.gathering.Lines.add.Goals as goal
 

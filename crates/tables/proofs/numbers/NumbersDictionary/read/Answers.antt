@@ -1,6 +1,6 @@
-use Rattle.std.proofs.Common.{Ok, Err, sym, ap, ◌∙◌}
+use Rattle.std.proofs.Common.{Err, sym, ap, ◌∙◌}
 use Rattle.std.proofs.lemmas.Result.{err_from_is_err_and}
-use Rattle.tables.specs.NumberTables.{number_objects, number_object}
+use Rattle.tables.specs.NumberTables.{number_objects}
 use Rattle.tables.proofs.Calls.{reads_at, memory_at}
 use Rattle.tables.proofs.NumberLaws.{number_missing, number_counted, number_holds}
 use Rattle.tables.proofs.numbers.NumbersDictionary.read.Goals as goal

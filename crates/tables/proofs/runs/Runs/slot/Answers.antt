@@ -1,4 +1,4 @@
-use Rattle.std.proofs.Common.{sym, ap, ◌∙◌}
+use Rattle.std.proofs.Common.{sym, ◌∙◌}
 use Rattle.std.proofs.lemmas.Result.{err_from_is_err_and}
 use Rattle.tables.proofs.RunLaws.{run_missing, run_shape, run_refused, run_slot}
 use Rattle.tables.proofs.runs.Runs.slot.Goals as goal

@@ -1,4 +1,4 @@
-use Rattle.std.proofs.Common.{◌≡◌, ◌+◌, ◌*◌, ◌<◌, ◌≤◌, get_or, set, arith}
+use Rattle.std.proofs.Common.{arith}
 use Rattle.wire.proofs.Gathers.{gathers, completes}
 use Rattle.wire.proofs.receiving.Receiver.gather.Goals as goal
 
