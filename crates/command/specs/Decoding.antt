@@ -12,7 +12,7 @@ use Rattle.command.specs.declared.commands.Command.TheVariants.{ReadObject, Init
 use Rattle.command.specs.declared.commands.Part.{Part}
 use Rattle.command.specs.declared.faults.CommandFault.{CommandFault}
 use Rattle.command.specs.declared.faults.Fault.{Fault}
-use Rattle.command.specs.declared.faults.Fault.TheVariants.{Wire as Of-wire, Command as Of-command}
+use Rattle.command.specs.declared.faults.Fault.TheVariants.{Wire as OfWire, Command as OfCommand}
 use Rattle.command.specs.Frames.{read_object, initiate_read, write_object, initiate_write, segment_read, segment_write}
 use Rattle.command.specs.Frames.{verb, len, address, payload, number, declared, read_toggle, write_toggle, size, marked, part, room}
 use Rattle.command.specs.Checks.{Check, closed, command_row, checks, first_of, found}
@@ -48,16 +48,16 @@ Is f (SegmentWrite n toggle last bytes) =
 -- what decoding gives
 abbrev pub Decodes : ℕ → Frame → Result Command CommandFault → Type 0
 Decodes node f (Ok c) = (command_check node f ≡ None) × Is f c
-Decodes node f (Err e) = found (command_check node f) ≡ Some (Of-command e)
+Decodes node f (Err e) = found (command_check node f) ≡ Some (OfCommand e)
 
 -- what reading a body gives: a body whose checksum does not fit is no frame
 abbrev pub Reads : ℕ → Result Frame wire.Fault → Result Command Fault → Type 0
 Reads node (Ok f) (Ok c) = Decodes node f (Ok c)
 Reads node (Ok f) (Err e) = found (command_check node f) ≡ Some e
 Reads node (Err fault) (Ok c) = ⊥
-Reads node (Err fault) (Err e) = e ≡ Of-wire fault
+Reads node (Err fault) (Err e) = e ≡ OfWire fault
 
 -- the address in front of the data, and the data behind it, of a frame that passes the command row
 abbrev pub Opens : ℕ → Frame → Result (Address × Bor Bytes) CommandFault → Type 0
 Opens node f (Ok p) = (command_check node f ≡ None) × (p.0 ≡ address f) × (p.1.now ≡ drop 4 f.content)
-Opens node f (Err e) = found (command_check node f) ≡ Some (Of-command e)
+Opens node f (Err e) = found (command_check node f) ≡ Some (OfCommand e)

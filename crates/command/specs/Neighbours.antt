@@ -1,5 +1,5 @@
 -- Neighbours in the table that never both apply: their order cannot be told. The order of each other pair of neighbours is told
--- by a worked case (len-node, no-chain-toggle-62, toggle-misfit, misfit-sum-over, ro-run-68, low-above-high).
+-- by a worked case (len_node, no_chain_toggle_62, toggle_misfit, misfit_sum_over, ro_run_68, low_above_high).
 -- Assumes nothing.
 use Rattle.std.specs.Prelude.{◌≡◌, ℕ, false, Some}
 use Rattle.dictionary.specs.Objects.{Objects, look, TakesLength, Sound}

@@ -12,7 +12,7 @@ use Rattle.command.specs.declared.commands.Command.{Command}
 use Rattle.command.specs.declared.commands.Command.TheVariants.{ReadObject, InitiateSegmentedRead, WriteObject, InitiateSegmentedWrite, SegmentRead, SegmentWrite}
 use Rattle.command.specs.declared.faults.CommandFault.{CommandFault}
 use Rattle.command.specs.declared.faults.Fault.{Fault}
-use Rattle.command.specs.declared.faults.Fault.TheVariants.{Wire, Command as Of-command}
+use Rattle.command.specs.declared.faults.Fault.TheVariants.{Wire, Command as OfCommand}
 use Rattle.command.specs.Answers.{accepted_data}
 use Rattle.command.specs.Checks.{Check, OpenChain, closed, fault, joined_of}
 use Rattle.command.specs.Commands.{Write, by_fault, brings_back, chain_by, writes, write_of, apply}
@@ -109,12 +109,12 @@ module _ (node : ℕ) (d : Objects) (s : State) (m bytes b : Bytes) (be : b ≡ 
     unstaged unknown k p q = refl
 
     -- a frame that the command row turns away
-    pub no_command : (e : CommandFault) → Decodes node (frame_of f) (Err e) → (answer : Result Bytes Fault) → Err (Of-command e) ≡ answer
+    pub no_command : (e : CommandFault) → Decodes node (frame_of f) (Err e) → (answer : Result Bytes Fault) → Err (OfCommand e) ≡ answer
         → (kept : Bool) (s1 : State) → kept ≡ not (of_chain (verb_of f.opcode)) → s1 ≡ cond kept s Closed
         → Leaves (body_done node d c m (checked_frame bytes)) answer (chain_of s1 m) d m
     unfolding verb
     no_command e g answer ae kept s1 ye se =
-        let k = found_one (command_check node (frame_of f)) (Of-command e) g in
+        let k = found_one (command_check node (frame_of f)) (OfCommand e) g in
         let x = row_refuses node d c (frame_of f) k.0 k.1 in
         as_frame answer (chain_of s1 m) d m
         (leaves_by node d c m (frame_of f) (verb (frame_of f)) (Some k.0) refl x _ _ _ _ (sym ae ∙ ap Err k.2)
