@@ -7,3 +7,4 @@ pub mod Padding
 pub mod Fitting
 pub mod Neighbours
 pub mod Cases
+pub mod Reading

@@ -99,6 +99,7 @@ pub fn decode<'a>(frame: Frame<'a>, node: u8) -> Result<Command<'a>, CommandFaul
 }
 
 // The command in a body. Its checksum is tested first: only a checked frame can be decoded, and decoding spends it.
+#[tactic(auto, using(crate::proofs::Reading::read_of))]
 pub fn read_command<'a>(body: &'a [u8], node: u8) -> Result<Command<'a>, Fault>
     ensures { Reads node (checked_frame body.now) result }
 {
