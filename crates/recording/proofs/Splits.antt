@@ -1,6 +1,6 @@
 -- How one byte more changes the lines of an input. Assumes nothing.
 use Rattle.std.proofs.Common.{◌≡◌, ℕ, suc, ◌≤◌, Bool, true, false, cond, not, eqb, List, [], ◌∷◌, ◌++◌, map, length, sym, refl, ap, ◌∙◌, arith}
-use Rattle.std.specs.List.{AllByRecursion as All}
+use Rattle.std.specs.List.{AllByRecursion}
 use Rattle.std.proofs.lemmas.Bool.{true≢false, false≢true, eqb-true, eqb-false}
 use Rattle.recording.specs.Lines.{onto, lines, unended, fed, Splits, kept}
 use Rattle.recording.proofs.Kept.{take_twice}
@@ -117,7 +117,7 @@ fed_lines (c ∷ d ∷ input) =
 
 -- no line feed stands in a line
 abbrev Clean : List (List ℕ) → Type 0
-Clean ls = All (All (λ c. c ≡ 0x0A → ⊥)) ls
+Clean ls = AllByRecursion (AllByRecursion (λ c. c ≡ 0x0A → ⊥)) ls
 
 led_clean : (t : Bool) (c : ℕ) (ls : List (List ℕ)) → (t ≡ false → c ≡ 0x0A → ⊥) → Clean ls → Clean (led t c ls)
 led_clean true c ls h k = (tt, k)

@@ -1,6 +1,6 @@
 -- The lines of an input. Assumes nothing.
 use Rattle.std.specs.Prelude.{◌≡◌, ℕ, Bool, false, cond, not, List, [], ◌∷◌, ◌++◌, take, ◌==◌, ◌≢◌}
-use Rattle.std.specs.List.{flat_map, AllByRecursion as All}
+use Rattle.std.specs.List.{flat_map, AllByRecursion}
 
 -- a character in front of the first line
 abbrev pub onto : ℕ → List (List ℕ) → List (List ℕ)
@@ -25,7 +25,7 @@ fed ls = flat_map (λ l. l ++ 0x0A ∷ []) ls
 -- an input splits into lines: with their line feeds they are the input, its last line ended, and no line has one inside
 pub record Splits (input : List ℕ) (ls : List (List ℕ)) : Type 0 where
   pub whole : fed ls ≡ input ++ cond (unended input) (0x0A ∷ []) []
-  pub clean : All (All (λ c. c ≢ 0x0A)) ls
+  pub clean : AllByRecursion (AllByRecursion (λ c. c ≢ 0x0A)) ls
 
 -- what is kept of a line: enough to see that it has more than 4,096 characters
 abbrev pub kept : List ℕ → List ℕ
