@@ -1,6 +1,6 @@
 -- The worked examples hold: the definitions compute them.
 use Rattle.std.proofs.Common.{◌≡◌, ℕ, zero, suc, Bool, true, false, ◌&&◌, List, [], ◌∷◌, ◌++◌, take, Some, None, Option, sym, refl, ap, ◌∙◌, arith}
-use Rattle.std.proofs.lemmas.Bool.{and_parts, both_ways}
+use Rattle.std.proofs.lemmas.Bool.{and_parts}
 use Rattle.wire.specs.declared.receiving.Phase.TheVariants.{Hunting, PastMark}
 use Rattle.wire.specs.Checksum.{takes, register, words, checksum_of}
 use Rattle.wire.specs.Line.{Marked, Completes}
@@ -14,7 +14,7 @@ none (Some body) = false
 none None = true
 
 none_is : (o : Option (List ℕ)) → none o ≡ true → o ≡ None
-none_is (Some body) e = absurd (both_ways false refl e)
+none_is (Some body) e = cc
 none_is None e = refl
 
 -- neither this step nor one that the bytes bring completes a body
@@ -34,14 +34,12 @@ unheard k body h =
     let f : None ≡ Some body
     = sym (quiet_front (after three_lines) request k refl) ∙ ap (λ s. s.body) (sym (steps_append (moves Hunting []) three_lines (take k request)))
     ∙ ap (λ s. s.body) (reported (three_lines ++ take k request) body h) in
-    let z : ◌≡◌ {A = ℕ} 0 1 = cc in
-    omega arith
+    cc
 
 no_mark : Marked (0x90 ∷ 0x90 ∷ 0x02 ∷ []) → ⊥
 no_mark m =
     let f : Hunting ≡ PastMark = ap (λ s. s.phase) (marked (0x90 ∷ 0x90 ∷ 0x02 ∷ []) m) in
-    let z : ◌≡◌ {A = ℕ} 0 1 = cc in
-    omega arith
+    cc
 
 pub worked : Worked
 unfolding takes register words checksum_of

@@ -1,9 +1,9 @@
 -- What a stretch hears, frame by frame.
-use Rattle.std.proofs.Common.{◌≡◌, ℕ, ◌+◌, ◌-◌, ◌%◌, true, false, not, ◌&&◌, eqb, List, [], ◌∷◌, ◌++◌, length, get_or, take, sym, refl, ap, ◌∙◌, subst, inl, inr, append_assoc, arith, length-append}
+use Rattle.std.proofs.Common.{◌≡◌, ℕ, ◌+◌, ◌-◌, ◌%◌, true, false, not, eqb, List, [], ◌∷◌, ◌++◌, length, get_or, take, sym, refl, ap, ◌∙◌, subst, inl, inr, append_assoc, arith, length-append}
 use mathlib.Core.List.{append_cancel_right}
 use Rattle.std.specs.List.{flat_map}
 use Rattle.std.proofs.lemmas.List.{take_at}
-use Rattle.std.proofs.lemmas.Bool.{true≢false, eqb-true, eq-eqb, and_parts, cases_Bool, both_ways}
+use Rattle.std.proofs.lemmas.Bool.{true≢false, eqb-true, eq-eqb, and_parts, cases_Bool}
 use Rattle.wire.specs.Checksum.{checksum_of}
 use Rattle.wire.specs.Framing.{body_of, header, low_high}
 use Rattle.wire.specs.Checking.{frame_in, same_bytes, fits}
@@ -48,7 +48,7 @@ joined_bodies (f ∷ fs) = ap (λ l. written f ++ l) (joined_bodies fs)
 bodies_none : (fs : List Frame) → bodies fs ≡ [] → fs ≡ []
 unfolding bodies
 bodies_none [] e = refl
-bodies_none (f ∷ fs) e = let z : ◌≡◌ {A = ℕ} 0 1 = cc in absurd (omega arith)
+bodies_none (f ∷ fs) e = cc
 
 next_frames : (stretch : List ℕ) → NextFrames stretch
 next_frames stretch s earlier f even e first =
@@ -79,8 +79,8 @@ first_lost stretch s f e o h =
 
 same_true : (xs ys : List ℕ) → same_bytes xs ys ≡ true → xs ≡ ys
 same_true [] [] e = refl
-same_true [] (y ∷ ys) e = absurd (both_ways false refl e)
-same_true (x ∷ xs) [] e = absurd (both_ways false refl e)
+same_true [] (y ∷ ys) e = cc
+same_true (x ∷ xs) [] e = cc
 same_true (x ∷ xs) (y ∷ ys) e =
     let h = and_parts (eqb x y) (same_bytes xs ys) e in
     λ i. eqb-true x y h.0 i ∷ same_true xs ys h.1 i
@@ -93,12 +93,12 @@ pub fits_true : (bytes : List ℕ) → fits bytes ≡ true → bytes ≡ body_of
 unfolding fits
 fits_true bytes e =
     same_true bytes (body_of (frame_in bytes).opcode (frame_in bytes).content)
-    (and_parts (eqb (length bytes % 2) 0) (same_bytes bytes (body_of (frame_in bytes).opcode (frame_in bytes).content)) e).1
+    (and_parts _ _ e).1
 
 pub fits_even : (bytes : List ℕ) → fits bytes ≡ true → length bytes % 2 ≡ 0
 unfolding fits
 fits_even bytes e =
-    eqb-true _ _ (and_parts (eqb (length bytes % 2) 0) (same_bytes bytes (body_of (frame_in bytes).opcode (frame_in bytes).content)) e).0
+    eqb-true _ _ (and_parts _ _ e).0
 
 pub fits_back : (op : ℕ) (content : List ℕ) → Even content → fits (body_of op content) ≡ true
 unfolding fits
@@ -107,7 +107,7 @@ fits_back op content even =
     let whole_words : eqb (length (body_of op content) % 2) 0 ≡ true = eq-eqb _ _ (omega arith) in
     let same : same_bytes (body_of op content) (body_of (frame_in (body_of op content)).opcode (frame_in (body_of op content)).content) ≡ true
     = ap (λ (f : Frame). same_bytes (body_of op content) (body_of f.opcode f.content)) (frame_back (record { opcode = op; content = content })) ∙ same_refl (body_of op content) in
-    ap (λ t. t && same_bytes (body_of op content) (body_of (frame_in (body_of op content)).opcode (frame_in (body_of op content)).content)) whole_words ∙ same
+    rw whole_words same
 
 pub fits_false : (bytes : List ℕ) → fits bytes ≡ false → (op : ℕ) (content : List ℕ) → Even content → bytes ≡ body_of op content → ⊥
 fits_false bytes e op content even p = true≢false (sym (fits_back op content even) ∙ ap fits (sym p) ∙ e)

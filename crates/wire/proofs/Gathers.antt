@@ -1,10 +1,10 @@
 -- What one step of the receiver leaves in the memory. Assumes nothing.
-use Rattle.std.proofs.Common.{◌≡◌, ℕ, suc, ◌+◌, ◌*◌, ◌<◌, ◌≤◌, true, false, cond, List, [], ◌∷◌, ◌++◌, length, get_or, take, drop, set, Some, None, sym, refl, ap, ◌∙◌, subst, inl, inr, append_assoc, arith}
+use Rattle.std.proofs.Common.{◌≡◌, ℕ, suc, ◌+◌, ◌*◌, ◌<◌, ◌≤◌, true, false, List, [], ◌∷◌, ◌++◌, length, get_or, take, drop, set, Some, None, sym, refl, ap, ◌∙◌, inl, inr, append_assoc, arith}
 use Rattle.std.proofs.lemmas.List.{take_more_set, set_split, length_push, length-take-le, get_or-take}
 use Rattle.std.proofs.lemmas.Bool.{le-leb, lt-leb, cases_lt}
 use Rattle.wire.specs.declared.receiving.Phase.{Phase}
 use Rattle.wire.specs.declared.receiving.Phase.TheVariants.{Hunting, PastMark}
-use Rattle.wire.specs.Receiving.{moves, whole, completed, gathering, Took}
+use Rattle.wire.specs.Receiving.{whole, gathering, Took}
 
 module _ (m : List ℕ) (n b : ℕ) (inside : n < length m) where
   abbrev bytes : List ℕ
@@ -32,16 +32,9 @@ module _ (m : List ℕ) (n b : ℕ) (inside : n < length m) where
       ]
 
   pub gathers : n + 1 < 4 + 2 * get_or (set m n b) 1 0 → Took (gathering (take n m ++ b ∷ [])) None PastMark (n + 1) m (set m n b)
-  gathers h =
-      let told : Took (moves PastMark bytes) None PastMark (n + 1) m (set m n b)
-      = record { tells = refl; moved = refl; counted = sym bytes_length; laid_front = bytes_laid } in
-      let e : gathering bytes ≡ moves PastMark bytes = ap (λ t. cond t (completed bytes) (moves PastMark bytes)) (not_whole h) in
-      subst (λ s. Took s None PastMark (n + 1) m (set m n b)) (sym e) told
+  gathers h = rw (not_whole h) (record { tells = refl; moved = refl; counted = sym bytes_length; laid_front = bytes_laid })
 
   pub completes : {phase : Phase} {count : ℕ} → phase ≡ Hunting → count ≡ 0 → 4 + 2 * get_or (set m n b) 1 0 ≤ n + 1 → Took (gathering (take n m ++ b ∷ [])) (Some (n + 1)) phase count m (set m n b)
-  completes {phase} {count} hunts none h =
-      let told : Took (completed bytes) (Some (n + 1)) phase count m (set m n b)
-      = record { tells = ap Some (sym bytes_length); moved = hunts; counted = none; laid_front = bytes_laid } in
+  completes hunts none h =
       let t : whole bytes ≡ true = le-leb _ _ (omega (arith, bytes_length, second (omega arith))) in
-      let e : gathering bytes ≡ completed bytes = ap (λ t. cond t (completed bytes) (moves PastMark bytes)) t in
-      subst (λ s. Took s (Some (n + 1)) phase count m (set m n b)) (sym e) told
+      rw t (record { tells = ap Some (sym bytes_length); moved = hunts; counted = none; laid_front = bytes_laid })

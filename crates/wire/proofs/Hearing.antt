@@ -2,7 +2,7 @@
 use Rattle.std.proofs.Common.{◌≡◌, ℕ, ◌+◌, ◌*◌, ◌<◌, Bool, true, false, cond, not, eqb, List, [], ◌∷◌, ◌++◌, length, get_or, replicate, Some, None, Option, sym, refl, ap, ◌∙◌, subst, inl, inr, append_assoc, append-nil, arith, length-append}
 use Rattle.std.specs.List.{flat_map}
 use Rattle.std.proofs.lemmas.List.{get_or_append_left, length_push, replicate_more}
-use Rattle.std.proofs.lemmas.Bool.{eqb-true, leb-true, leb-false, le-leb, lt-leb, cases_Bool, cases_lt, both_ways, cond-true, cond-false}
+use Rattle.std.proofs.lemmas.Bool.{eqb-true, leb-true, leb-false, le-leb, lt-leb, cases_Bool, cases_lt, cond-true, cond-false, cond_both}
 use Rattle.wire.specs.declared.receiving.Phase.{Phase}
 use Rattle.wire.specs.declared.receiving.Phase.TheVariants.{Hunting, PastMark, OpenDle}
 use Rattle.wire.specs.Line.{stuff, Open, Marked, Complete, Completes, framed}
@@ -22,12 +22,14 @@ opens Hunting = false
 opens PastMark = false
 opens (OpenDle t) = true
 
-gathering_shut : (bytes : List ℕ) → opens (gathering bytes).phase ≡ false
-gathering_shut bytes =
-    elim (whole bytes) as (λ t. opens (cond t (completed bytes) (moves PastMark bytes)).phase ≡ false) [ true ↦ refl | false ↦ refl ]
+abbrev Shut : Step → Type 0
+Shut s = opens s.phase ≡ false
 
-shut_after : (b : ℕ) → opens (cond (eqb b 0x02) (moves PastMark []) (moves Hunting [])).phase ≡ false
-shut_after b = elim (eqb b 0x02) as (λ t. opens (cond t (moves PastMark []) (moves Hunting [])).phase ≡ false) [ true ↦ refl | false ↦ refl ]
+gathering_shut : (bytes : List ℕ) → Shut (gathering bytes)
+gathering_shut bytes = cond_both (whole bytes) _ _ Shut (λ _. refl) (λ _. refl)
+
+shut_after : (b : ℕ) → Shut (cond (eqb b 0x02) (moves PastMark []) (moves Hunting []))
+shut_after b = cond_both (eqb b 0x02) _ _ Shut (λ _. refl) (λ _. refl)
 
 pub step_opens : (p : Phase) (g : List ℕ) (b : ℕ) → opens (step p g b).phase ≡ opened (opens p) b
 step_opens Hunting g b =
@@ -56,8 +58,8 @@ steps_opens s (b ∷ bytes) =
 -- From a completed body to what the receiver reports.
 
 pub stx_marks : (p : Phase) (g : List ℕ) → opens p ≡ true → step p g 0x02 ≡ moves PastMark []
-stx_marks Hunting g e = absurd (both_ways false refl e)
-stx_marks PastMark g e = absurd (both_ways false refl e)
+stx_marks Hunting g e = cc
+stx_marks PastMark g e = cc
 stx_marks (OpenDle true) g e = refl
 stx_marks (OpenDle false) g e = refl
 
@@ -71,12 +73,8 @@ marked bytes m =
 pub one_more : (xs : List ℕ) (y : ℕ) (ys : List ℕ) → steps (moves PastMark xs) (stuff (y ∷ ys)) ≡ steps (gathering (xs ++ y ∷ [])) (stuff ys)
 one_more xs y ys =
     elim (cases_Bool (eqb y 0x90)) [
-      | inl e ↦
-          ap (steps (moves PastMark xs)) (cond-true (eqb y 0x90) (0x90 ∷ 0x90 ∷ stuff ys) (y ∷ stuff ys) e)
-          ∙ ap (λ c. steps (gathering (xs ++ c ∷ [])) (stuff ys)) (sym (eqb-true y 0x90 e))
-      | inr e ↦
-          ap (steps (moves PastMark xs)) (cond-false (eqb y 0x90) (0x90 ∷ 0x90 ∷ stuff ys) (y ∷ stuff ys) e)
-          ∙ ap (λ s. steps s (stuff ys)) (cond-false (eqb y 0x90) (moves (OpenDle true) xs) (gathering (xs ++ y ∷ [])) e)
+      | inl e ↦ rw e (ap (λ c. steps (gathering (xs ++ c ∷ [])) (stuff ys)) (sym (eqb-true y 0x90 e)))
+      | inr e ↦ rw e (ap (λ s. steps s (stuff ys)) (cond-false (eqb y 0x90) (moves (OpenDle true) xs) (gathering (xs ++ y ∷ [])) e))
     ]
 
 -- a front of a complete body is not whole
@@ -137,67 +135,46 @@ longer s w g b t e =
     let text : s ++ w ≡ t.mark ++ stuff bytes
     = ap (λ l. l ++ w) t.text ∙ append_assoc t.mark (stuff g) w
     ∙ ap (λ l. t.mark ++ l) (ap (λ l. stuff g ++ l) e ∙ sym (stuff_append g (b ∷ []))) in
-    elim (cases_Bool (whole bytes)) [
-      | inl y ↦
-          let full : Complete bytes
-          = elim (cases_lt 1 (length g)) [
-            | inl h ↦ omega (arith, t.short, leb-true _ _ y, length_push g b, get_or_append_left g (b ∷ []) 0 1 h)
-            | inr h ↦ omega (arith, leb-true _ _ y, length_push g b)
-          ] in
-          subst (Known (s ++ w)) (sym (cond-true (whole bytes) (completed bytes) (moves PastMark bytes) y))
-          (refl, record { mark = t.mark; marked = t.marks; text = text; complete = full })
-      | inr n ↦
-          subst (Known (s ++ w)) (sym (cond-false (whole bytes) (completed bytes) (moves PastMark bytes) n))
-          (record { mark = t.mark; marks = t.marks; text = text; short = leb-false _ _ n }, tt)
-    ]
+    cond_both (whole bytes) _ _ (Known (s ++ w))
+    (λ y.
+    let full : Complete bytes
+    = elim (cases_lt 1 (length g)) [
+      | inl h ↦ omega (arith, t.short, leb-true _ _ y, length_push g b, get_or_append_left g (b ∷ []) 0 1 h)
+      | inr h ↦ omega (arith, leb-true _ _ y, length_push g b)
+    ] in
+    (refl, record { mark = t.mark; marked = t.marks; text = text; complete = full }))
+    (λ n. (record { mark = t.mark; marks = t.marks; text = text; short = leb-false _ _ n }, tt))
 
 -- after an open DLE, a byte that is no DLE
 breaks : (s : List ℕ) (b : ℕ) → Open s → Known (s ++ b ∷ []) (cond (eqb b 0x02) (moves PastMark []) (moves Hunting []))
 breaks s b o =
-    elim (cases_Bool (eqb b 0x02)) [
-      | inl e ↦
-          subst (Known (s ++ b ∷ [])) (sym (cond-true (eqb b 0x02) (moves PastMark []) (moves Hunting []) e)) (
-            record {
-              mark = s ++ b ∷ [];
-              marks = record { before = s; odd = o; stx = ap (λ c. s ++ c ∷ []) (eqb-true b 0x02 e) };
-              text = sym (append-nil (s ++ b ∷ []));
-              short = omega arith;
-            },
-            tt,
-          )
-      | inr e ↦ subst (Known (s ++ b ∷ [])) (sym (cond-false (eqb b 0x02) (moves PastMark []) (moves Hunting []) e)) (refl, tt)
-    ]
+    cond_both (eqb b 0x02) _ _ (Known (s ++ b ∷ []))
+    (λ e. (
+      record {
+        mark = s ++ b ∷ [];
+        marks = record { before = s; odd = o; stx = ap (λ c. s ++ c ∷ []) (eqb-true b 0x02 e) };
+        text = sym (append-nil (s ++ b ∷ []));
+        short = omega arith;
+      },
+      tt,
+    ))
+    (λ _. (refl, tt))
 
 known_step : (s : List ℕ) (p : Phase) (g : List ℕ) (b : ℕ) → (opens p ≡ true → Open s) → Sofar s p g → Known (s ++ b ∷ []) (step p g b)
-known_step s Hunting g b o t =
-    elim (eqb b 0x90) as (λ v. Known (s ++ b ∷ []) (cond v (moves (OpenDle false) g) (moves Hunting g))) [ true ↦ (t, tt) | false ↦ (t, tt) ]
+known_step s Hunting g b o t = cond_both (eqb b 0x90) _ _ (Known (s ++ b ∷ [])) (λ _. (t, tt)) (λ _. (t, tt))
 known_step s PastMark g b o t =
-    elim (cases_Bool (eqb b 0x90)) [
-      | inl e ↦
-          subst (Known (s ++ b ∷ [])) (sym (cond-true (eqb b 0x90) (moves (OpenDle true) g) (gathering (g ++ b ∷ [])) e))
-          ((s, ap (λ c. s ++ c ∷ []) (eqb-true b 0x90 e), t), tt)
-      | inr e ↦
-          subst (Known (s ++ b ∷ [])) (sym (cond-false (eqb b 0x90) (moves (OpenDle true) g) (gathering (g ++ b ∷ [])) e))
-          (longer s (b ∷ []) g b t (sym (cond-false (eqb b 0x90) (0x90 ∷ 0x90 ∷ []) (b ∷ []) e)))
-    ]
+    cond_both (eqb b 0x90) _ _ (Known (s ++ b ∷ []))
+    (λ e. ((s, ap (λ c. s ++ c ∷ []) (eqb-true b 0x90 e), t), tt))
+    (λ e. longer s (b ∷ []) g b t (sym (cond-false (eqb b 0x90) (0x90 ∷ 0x90 ∷ []) (b ∷ []) e)))
 known_step s (OpenDle true) g b o t =
-    let other = cond (eqb b 0x02) (moves PastMark []) (moves Hunting []) in
-    elim (cases_Bool (eqb b 0x90)) [
-      | inl e ↦
-          let two : s ++ b ∷ [] ≡ t.0 ++ 0x90 ∷ 0x90 ∷ []
-          = ap (λ l. l ++ b ∷ []) t.1 ∙ append_assoc t.0 (0x90 ∷ []) (b ∷ []) ∙ ap (λ c. t.0 ++ 0x90 ∷ c ∷ []) (eqb-true b 0x90 e) in
-          subst (Known (s ++ b ∷ [])) (sym (cond-true (eqb b 0x90) (gathering (g ++ b ∷ [])) other e))
-          (subst (λ l. Known l (gathering (g ++ b ∷ []))) (sym two)
-          (longer t.0 (0x90 ∷ 0x90 ∷ []) g b t.2 (sym (cond-true (eqb b 0x90) (0x90 ∷ 0x90 ∷ []) (b ∷ []) e))))
-      | inr e ↦
-          subst (Known (s ++ b ∷ [])) (sym (cond-false (eqb b 0x90) (gathering (g ++ b ∷ [])) other e)) (breaks s b (o refl))
-    ]
-known_step s (OpenDle false) g b o t =
-    let other = cond (eqb b 0x02) (moves PastMark []) (moves Hunting []) in
-    elim (cases_Bool (eqb b 0x90)) [
-      | inl e ↦ subst (Known (s ++ b ∷ [])) (sym (cond-true (eqb b 0x90) (moves Hunting []) other e)) (refl, tt)
-      | inr e ↦ subst (Known (s ++ b ∷ [])) (sym (cond-false (eqb b 0x90) (moves Hunting []) other e)) (breaks s b (o refl))
-    ]
+    cond_both (eqb b 0x90) _ _ (Known (s ++ b ∷ []))
+    (λ e.
+    let two : s ++ b ∷ [] ≡ t.0 ++ 0x90 ∷ 0x90 ∷ []
+    = ap (λ l. l ++ b ∷ []) t.1 ∙ append_assoc t.0 (0x90 ∷ []) (b ∷ []) ∙ ap (λ c. t.0 ++ 0x90 ∷ c ∷ []) (eqb-true b 0x90 e) in
+    subst (λ l. Known l (gathering (g ++ b ∷ []))) (sym two)
+    (longer t.0 (0x90 ∷ 0x90 ∷ []) g b t.2 (sym (cond-true (eqb b 0x90) (0x90 ∷ 0x90 ∷ []) (b ∷ []) e))))
+    (λ _. breaks s b (o refl))
+known_step s (OpenDle false) g b o t = cond_both (eqb b 0x90) _ _ (Known (s ++ b ∷ [])) (λ _. (refl, tt)) (λ _. breaks s b (o refl))
 
 pub known : (s : List ℕ) (st : Step) (bytes : List ℕ) → opens st.phase ≡ parity false s → Known s st → Known (s ++ bytes) (steps st bytes)
 known s st [] o k = subst (λ l. Known l st) (sym (append-nil s)) k

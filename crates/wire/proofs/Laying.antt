@@ -1,7 +1,8 @@
 -- Bytes laid over the front of a memory, part by part.
-use Rattle.std.proofs.Common.{◌≡◌, ℕ, zero, suc, ◌+◌, ◌*◌, ◌<◌, ◌≤◌, true, false, cond, eqb, List, [], ◌∷◌, ◌++◌, length, get_or, take, drop, set, sym, refl, ap, ◌∙◌, subst, inl, inr, append_assoc, arith, length-append}
+use Rattle.std.proofs.Common.{count_by, ◌==◌, ◌≡◌, ℕ, zero, suc, ◌+◌, ◌*◌, ◌<◌, ◌≤◌, true, false, cond, eqb, List, [], ◌∷◌, ◌++◌, length, get_or, take, drop, set, sym, refl, ap, ◌∙◌, subst, inl, inr, append_assoc, arith, length-append}
 use Rattle.std.proofs.lemmas.List.{take_at, drop_at, drop-drop, drop_more, set_at, length_push, length-take-le, take_more, take-append-drop, get_or-append-add}
-use Rattle.std.proofs.lemmas.Bool.{cases_Bool, cond-true, cond-false, ne_eqb, eq-eqb, eqb-true}
+use Rattle.std.proofs.lemmas.List.Sums.{sum_by-cons, count_by-le-length}
+use Rattle.std.proofs.lemmas.Bool.{cond_both, cases_Bool, eqb-true}
 use Rattle.wire.specs.Framing.{laid}
 use Rattle.wire.specs.Line.{stuff}
 
@@ -19,14 +20,19 @@ stuff_append (x ∷ xs) ys =
       | false ↦ ap (λ l. x ∷ l) (stuff_append xs ys)
     ]
 
-pub stuff_length : (xs : List ℕ) → length (stuff xs) ≤ 2 * length xs
-stuff_length [] = omega arith
-stuff_length (x ∷ xs) =
-    let h = stuff_length xs in
-    elim (eqb x 0x90) as (λ t. length (cond t (0x90 ∷ 0x90 ∷ stuff xs) (x ∷ stuff xs)) ≤ 2 * suc (length xs)) [
-      | true ↦ omega arith
-      | false ↦ omega arith
+-- each DLE is one byte more
+pub stuffed_count : (xs : List ℕ) → length (stuff xs) ≡ length xs + count_by (λ b. b == 0x90) xs
+stuffed_count [] = refl
+stuffed_count (x ∷ xs) =
+    let h : count_by (λ b. b == 0x90) (x ∷ xs) ≡ cond (x == 0x90) 1 0 + count_by (λ b. b == 0x90) xs = sum_by-cons (λ b. cond (b == 0x90) 1 0) x xs in
+    let e = stuffed_count xs in
+    elim (cases_Bool (x == 0x90)) [
+      | inl y ↦ omega (arith, h, e, ap (λ t. length (cond t (0x90 ∷ 0x90 ∷ stuff xs) (x ∷ stuff xs))) y, ap {B = ℕ} (λ t. cond t 1 0) y)
+      | inr n ↦ omega (arith, h, e, ap (λ t. length (cond t (0x90 ∷ 0x90 ∷ stuff xs) (x ∷ stuff xs))) n, ap {B = ℕ} (λ t. cond t 1 0) n)
     ]
+
+pub stuff_length : (xs : List ℕ) → length (stuff xs) ≤ 2 * length xs
+stuff_length xs = omega (arith, stuffed_count xs, count_by-le-length (λ b. b == 0x90) xs)
 
 cons : (x : ℕ) (xs : List ℕ) (i : ℕ) → x < 256 → ((j : ℕ) → get_or xs j 0 < 256) → get_or (x ∷ xs) i 0 < 256
 cons x xs zero h t = h
@@ -36,14 +42,9 @@ cons x xs (suc i) h t = t i
 unstuffed : (xs : List ℕ) (i : ℕ) → ((k : ℕ) → get_or (stuff xs) k 0 < 256) → get_or xs i 0 < 256
 unstuffed [] i all = all i
 unstuffed (x ∷ xs) i all =
-    elim (cases_Bool (eqb x 0x90)) [
-      | inl e ↦
-          let all' : (k : ℕ) → get_or (0x90 ∷ 0x90 ∷ stuff xs) k 0 < 256 = λ k. subst (λ l. get_or l k 0 < 256) (cond-true (eqb x 0x90) (0x90 ∷ 0x90 ∷ stuff xs) (x ∷ stuff xs) e) (all k) in
-          cons x xs i (omega (arith, eqb-true x 0x90 e)) (λ j. unstuffed xs j (λ k. all' (suc (suc k))))
-      | inr e ↦
-          let all' : (k : ℕ) → get_or (x ∷ stuff xs) k 0 < 256 = λ k. subst (λ l. get_or l k 0 < 256) (cond-false (eqb x 0x90) (0x90 ∷ 0x90 ∷ stuff xs) (x ∷ stuff xs) e) (all k) in
-          cons x xs i (all' 0) (λ j. unstuffed xs j (λ k. all' (suc k)))
-    ]
+    cond_both (eqb x 0x90) _ _ (λ l. ((k : ℕ) → get_or l k 0 < 256) → get_or (x ∷ xs) i 0 < 256)
+    (λ e more. cons x xs i (omega (arith, eqb-true x 0x90 e)) (λ j. unstuffed xs j (λ k. more (suc (suc k)))))
+    (λ _ more. cons x xs i (more 0) (λ j. unstuffed xs j (λ k. more (suc k)))) all
 
 pub stuffed_bytes : (before xs : List ℕ) (i : ℕ) → ((k : ℕ) → get_or (before ++ stuff xs) k 0 < 256) → get_or xs i 0 < 256
 stuffed_bytes before xs i all = unstuffed xs i (λ k. subst (λ n. n < 256) (get_or-append-add before (stuff xs) k 0) (all (length before + k)))
@@ -74,15 +75,6 @@ laid_more m₀ m f w n e h =
     ∙ ap (drop (length w)) (drop_at f (drop (length f) m₀) (length f) refl) ∙ drop-drop (length w) (length f) m₀
     ∙ ap (λ k. drop k m₀) (sym (length-append f w)) in
     ap (λ l. laid (l ++ w) m) front ∙ ap (laid (f ++ w)) e ∙ ap (λ l. (f ++ w) ++ l) rest
-
-pub stuff_other : (b : ℕ) → (b ≡ 0x90 → ⊥) → b ∷ [] ≡ stuff (b ∷ [])
-stuff_other b h = sym (cond-false (eqb b 0x90) (0x90 ∷ 0x90 ∷ []) (b ∷ []) (ne_eqb b 0x90 h))
-
-pub stuff_dle : (b : ℕ) → b ≡ 0x90 → b ∷ 0x90 ∷ [] ≡ stuff (b ∷ [])
-stuff_dle b h = ap (λ c. c ∷ 0x90 ∷ []) h ∙ sym (cond-true (eqb b 0x90) (0x90 ∷ 0x90 ∷ []) (b ∷ []) (eq-eqb b 0x90 h))
-
-pub stuff_some : (b : ℕ) → 1 ≤ length (stuff (b ∷ []))
-stuff_some b = elim (eqb b 0x90) as (λ t. 1 ≤ length (cond t (0x90 ∷ 0x90 ∷ []) (b ∷ []))) [ true ↦ omega arith | false ↦ omega arith ]
 
 -- one byte more of those that are stuffed
 pub stuff_next : (bytes : List ℕ) (i : ℕ) → i < length bytes → stuff (take (i + 1) bytes) ≡ stuff (take i bytes) ++ stuff (get_or bytes i 0 ∷ [])

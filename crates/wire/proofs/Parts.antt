@@ -1,9 +1,8 @@
 -- A frame laid part by part.
-use Rattle.std.proofs.Common.{◌≡◌, ℕ, ◌+◌, ◌%◌, ◌<◌, ◌≤◌, true, false, not, eqb, ltb, ◌⊎◌, List, [], ◌∷◌, ◌++◌, length, get_or, take, drop, set, Ok, Err, Result, sym, refl, ap, ◌∙◌, subst, inl, inr, arith, length-append}
+use Rattle.std.proofs.Common.{◌≡◌, ℕ, ◌+◌, ◌%◌, ◌<◌, ◌≤◌, false, not, eqb, ltb, List, [], ◌∷◌, ◌++◌, length, get_or, take, drop, set, Ok, Result, sym, refl, ap, ◌∙◌, subst, inl, inr, arith, length-append}
 use Rattle.std.proofs.lemmas.List.{take_at}
-use Rattle.std.proofs.lemmas.Bool.{lt-ltb, le-ltb, ltb-false, eq-eqb, eqb-true, or_parts, or_from, not-false, not_from_true, cases_Bool, cases_lt, cond-true, cond-false}
+use Rattle.std.proofs.lemmas.Bool.{le-ltb, ltb-false, eq-eqb, eqb-true, or_parts, or_from, not-false, not_from_true, cases_Bool, cond-true, cond-false, cond_both}
 use Rattle.wire.specs.declared.faults.Refusal.{Refusal}
-use Rattle.wire.specs.declared.faults.Refusal.TheVariants.{WriteMemory, DataLength}
 use Rattle.wire.specs.Frames.{Bytes, Even, Heard}
 use Rattle.wire.specs.Framing.{Writing, laid, body_of, misfit, written_over, laying, writing, Rewrites}
 use Rattle.wire.specs.Line.{Open, stuff, framed}
@@ -78,29 +77,20 @@ module _ (opcode : ℕ) (content memory : List ℕ) where
   longest h = omega (arith, stuff_length (body_of opcode content), body_length opcode content, (fit content h).1)
 
   -- a memory with room for the longest frame has room for this one
-  pub lays : ((misfit content ≡ false) × (1030 ≤ length memory)) ⊎ (misfit content ≡ true) → laying opcode content memory ≡ writing opcode content memory
-  lays (inl h) =
-      cond-false (misfit content) _ _ h.0 ∙ cond-false (ltb (length memory) (length bytes)) _ _ (le-ltb _ _ (omega (arith, longest h.0, h.1))) ∙ sym (writes h.0 h.1)
-  lays (inr h) = cond-true (misfit content) _ _ h ∙ sym (cond-true (misfit content) _ _ h)
+  pub lays : (misfit content ≡ false → 1030 ≤ length memory) → laying opcode content memory ≡ writing opcode content memory
+  lays room =
+      elim (cases_Bool (misfit content)) [
+        | inl h ↦ cond-true (misfit content) _ _ h ∙ sym (cond-true (misfit content) _ _ h)
+        | inr h ↦
+            cond-false (misfit content) _ _ h ∙ cond-false (ltb (length memory) (length bytes)) _ _ (le-ltb _ _ (omega (arith, longest h, room h))) ∙ sym (writes h (room h))
+      ]
 
   -- what is not taken says so
   taken_fits : (n : ℕ) → (writing opcode content memory).result ≡ Ok n → (misfit content ≡ false) × (1030 ≤ length memory)
-  taken_fits n e =
-      elim (cases_Bool (misfit content)) [
-        | inl h ↦
-            let f : ◌≡◌ {A = Result ℕ Refusal} (Err DataLength) (Ok n) = sym (ap (λ (x : Writing). x.result) (cond-true (misfit content) _ _ h)) ∙ e in
-            let z : ◌≡◌ {A = ℕ} 0 1 = cc in
-            absurd (omega arith)
-        | inr h ↦
-            elim (cases_lt (length memory) 1030) [
-              | inl short ↦
-                  let f : ◌≡◌ {A = Result ℕ Refusal} (Err WriteMemory) (Ok n)
-                  = sym (ap (λ (x : Writing). x.result) (cond-false (misfit content) _ _ h ∙ cond-true (ltb (length memory) 1030) _ _ (lt-ltb _ _ short))) ∙ e in
-                  let z : ◌≡◌ {A = ℕ} 0 1 = cc in
-                  absurd (omega arith)
-              | inr room ↦ (h, room)
-            ]
-      ]
+  taken_fits n =
+      let P : Writing → Type 0 = λ w. w.result ≡ Ok n → (misfit content ≡ false) × (1030 ≤ length memory) in
+      cond_both (misfit content) _ _ P (λ _ e. absurd (cc))
+      (λ h. cond_both (ltb (length memory) 1030) _ _ P (λ _ e. absurd (cc)) (λ room _. (h, ltb-false _ _ room)))
 
   front_written : take (length bytes) (written_over bytes memory).memory ≡ bytes
   front_written = take_at bytes (drop (length bytes) memory) (length bytes) refl

@@ -1,11 +1,15 @@
 -- The steps of the checksum's loops, and its bound.
-use Rattle.std.proofs.Common.{◌≡◌, ℕ, zero, suc, ◌+◌, ◌-◌, ◌*◌, ◌/◌, ◌%◌, ◌^◌, ◌<◌, ◌≤◌, true, false, cond, ltb, List, [], ◌∷◌, ◌++◌, length, get_or, drop, refl, ap, ◌∙◌, arith, lit<}
+use Rattle.std.proofs.Common.{◌≡◌, ℕ, zero, suc, ◌+◌, ◌-◌, ◌*◌, ◌/◌, ◌%◌, ◌^◌, ◌<◌, true, false, cond, ltb, List, [], ◌∷◌, ◌++◌, length, refl, ap, ◌∙◌, arith, lit<}
+use Rattle.std.specs.Int.{w16, from_le_bytes}
+use Rattle.std.specs.List.{fold}
+use Rattle.std.specs.Simd.{first_chunks}
 use lib.Bits.{bit_xor, xor_lt}
 use Rattle.wire.specs.Checksum.{shifted, takes, register, words, checksum_of}
 
-pub takes_none : (w r : ℕ) → takes 0 w r ≡ r
+pub takes_none : (n w r : ℕ) → n ≡ 0 → takes n w r ≡ r
 unfolding takes
-takes_none w r = refl
+takes_none zero w r h = refl
+takes_none (suc n) w r h = absurd (omega arith)
 
 takes_suc : (n w r : ℕ) → takes (suc n) w r ≡ takes n w (shifted r (w / 2 ^ n % 2))
 unfolding takes
@@ -16,25 +20,15 @@ takes_more n w r h =
     let e : n ≡ suc (n - 1) = omega arith in
     ap (λ k. takes k w r) e ∙ takes_suc (n - 1) w r
 
-pub words_more : (xs : List ℕ) → 2 ≤ length xs → words xs ≡ (get_or xs 0 0 + get_or xs 1 0 * 256) ∷ words (drop 2 xs)
-unfolding words
-words_more [] h = absurd (omega arith)
-words_more (x ∷ []) h = absurd (omega arith)
-words_more (x ∷ y ∷ xs) h = refl
-
-pub words_short : (xs : List ℕ) → length xs < 2 → words xs ≡ []
-unfolding words
-words_short [] h = refl
-words_short (x ∷ []) h = refl
-words_short (x ∷ y ∷ xs) h = absurd (omega arith)
-
-pub register_none : (r : ℕ) → register [] r ≡ r
-unfolding register
-register_none r = refl
-
-pub register_more : (w : ℕ) (ws : List ℕ) (r : ℕ) → register (w ∷ ws) r ≡ register ws (takes 16 w r)
-unfolding register
-register_more w ws r = refl
+-- the words taken in turn, two bytes each
+pub fold_words : (bytes : List ℕ) (r : ℕ) → fold (λ sum word. takes 16 (from_le_bytes w16 word) sum) r (first_chunks 2 (length bytes / 2) bytes) ≡ register (words bytes) r
+unfolding words register
+fold_words [] r = refl
+fold_words (b ∷ []) r = refl
+fold_words (b ∷ c ∷ bytes) r =
+    let half : length (b ∷ c ∷ bytes) / 2 ≡ suc (length bytes / 2) = omega arith in
+    ap (λ k. fold (λ sum word. takes 16 (from_le_bytes w16 word) sum) r (first_chunks 2 k (b ∷ c ∷ bytes))) half
+    ∙ fold_words bytes (takes 16 (b + c * 256) r)
 
 register_last : (ws : List ℕ) (r : ℕ) → register (ws ++ 0 ∷ []) r ≡ takes 16 0 (register ws r)
 unfolding register

@@ -1,13 +1,13 @@
 -- From what a step leaves to what a call promises of it.
-use Rattle.std.proofs.Common.{◌≡◌, ℕ, ◌≤◌, true, false, cond, eqb, ltb, List, [], ◌∷◌, ◌++◌, length, take, drop, Some, None, Ok, Option, sym, refl, ap, ◌∙◌, subst, arith, length-append}
-use Rattle.std.proofs.lemmas.List.{take_at}
-use Rattle.std.proofs.lemmas.Bool.{le-ltb, cond-false}
+use Rattle.std.proofs.Common.{◌≡◌, ℕ, ◌≤◌, true, false, cond, eqb, ltb, List, [], ◌∷◌, ◌++◌, length, take, drop, Some, None, Ok, Option, sym, refl, ap, ◌∙◌, subst, append_assoc, arith, length-append, length-drop}
+use Rattle.std.proofs.lemmas.List.{take_at, take-take, take-append-drop, length-take-le, drop-append-le}
+use Rattle.std.proofs.lemmas.Bool.{le-ltb, cond-false, cond_both}
 use Rattle.wire.specs.declared.receiving.Phase.{Phase}
 use Rattle.wire.specs.declared.receiving.Phase.TheVariants.{Hunting, PastMark, OpenDle}
 use Rattle.wire.specs.Framing.{laid}
 use Rattle.wire.specs.Holding.{Holds, Tells}
 use Rattle.wire.specs.Line.{Completes}
-use Rattle.wire.specs.Receiving.{Step, moves, whole, completed, gathering, step, front, size, Took, outcome, received}
+use Rattle.wire.specs.Receiving.{Step, moves, whole, gathering, step, front, size, Took, outcome, received}
 use Rattle.wire.proofs.Hearing.{steps_append, heard, reported}
 use Rattle.wire.proofs.Holding.{fold_holds, holds_fold}
 use Rattle.wire.proofs.Steps.{after}
@@ -26,26 +26,20 @@ abbrev Settled : Option (List ℕ) → List ℕ → Type 0
 Settled (Some body) g = g ≡ []
 Settled None g = Unit {0}
 
-settled_gathering : (bytes : List ℕ) → Settled (gathering bytes).body (gathering bytes).gathered
-settled_gathering bytes =
-    elim (whole bytes) as (λ t. Settled (cond t (completed bytes) (moves PastMark bytes)).body (cond t (completed bytes) (moves PastMark bytes)).gathered) [ true ↦ refl | false ↦ tt ]
+abbrev Settles : Step → Type 0
+Settles s = Settled s.body s.gathered
 
-settled_after : (b : ℕ) → Settled (cond (eqb b 0x02) (moves PastMark []) (moves Hunting [])).body (cond (eqb b 0x02) (moves PastMark []) (moves Hunting [])).gathered
-settled_after b = elim (eqb b 0x02) as (λ t. Settled (cond t (moves PastMark []) (moves Hunting [])).body (cond t (moves PastMark []) (moves Hunting [])).gathered) [ true ↦ tt | false ↦ tt ]
+settled_gathering : (bytes : List ℕ) → Settles (gathering bytes)
+settled_gathering bytes = cond_both (whole bytes) _ _ Settles (λ _. refl) (λ _. tt)
 
-settled : (p : Phase) (g : List ℕ) (b : ℕ) → Settled (step p g b).body (step p g b).gathered
-settled Hunting g b =
-    elim (eqb b 0x90) as (λ t. Settled (cond t (moves (OpenDle false) g) (moves Hunting g)).body (cond t (moves (OpenDle false) g) (moves Hunting g)).gathered) [ true ↦ tt | false ↦ tt ]
-settled PastMark g b =
-    let more : Step = gathering (g ++ b ∷ []) in
-    elim (eqb b 0x90) as (λ t. Settled (cond t (moves (OpenDle true) g) more).body (cond t (moves (OpenDle true) g) more).gathered) [ true ↦ tt | false ↦ settled_gathering (g ++ b ∷ []) ]
-settled (OpenDle true) g b =
-    let more : Step = gathering (g ++ b ∷ []) in
-    let other : Step = cond (eqb b 0x02) (moves PastMark []) (moves Hunting []) in
-    elim (eqb b 0x90) as (λ t. Settled (cond t more other).body (cond t more other).gathered) [ true ↦ settled_gathering (g ++ b ∷ []) | false ↦ settled_after b ]
-settled (OpenDle false) g b =
-    let other : Step = cond (eqb b 0x02) (moves PastMark []) (moves Hunting []) in
-    elim (eqb b 0x90) as (λ t. Settled (cond t (moves Hunting []) other).body (cond t (moves Hunting []) other).gathered) [ true ↦ tt | false ↦ settled_after b ]
+settled_after : (b : ℕ) → Settles (cond (eqb b 0x02) (moves PastMark []) (moves Hunting []))
+settled_after b = cond_both (eqb b 0x02) _ _ Settles (λ _. tt) (λ _. tt)
+
+settled : (p : Phase) (g : List ℕ) (b : ℕ) → Settles (step p g b)
+settled Hunting g b = cond_both (eqb b 0x90) _ _ Settles (λ _. tt) (λ _. tt)
+settled PastMark g b = cond_both (eqb b 0x90) _ _ Settles (λ _. tt) (λ _. settled_gathering (g ++ b ∷ []))
+settled (OpenDle true) g b = cond_both (eqb b 0x90) _ _ Settles (λ _. settled_gathering (g ++ b ∷ [])) (λ _. settled_after b)
+settled (OpenDle false) g b = cond_both (eqb b 0x90) _ _ Settles (λ _. tt) (λ _. settled_after b)
 
 -- what a step leaves gathered stands at the front of the memory
 held : (o : Option (List ℕ)) (g memory then : List ℕ) → Settled o g
@@ -62,8 +56,7 @@ tells stretch (Some body) g memory then e over =
 tells stretch None g memory then e over =
     λ body h.
     let f : None ≡ Some body = sym e ∙ ap (λ s. s.body) (reported stretch body h) in
-    let z : ◌≡◌ {A = ℕ} 0 1 = cc in
-    omega arith
+    cc
 
 pub hears_more : (stretch : List ℕ) (b : ℕ) (p : Phase) (g : List ℕ) (r : Option ℕ) (phase : Phase) (count : ℕ) (memory then : List ℕ)
     → Took (step p g b) r phase count memory then → Holds stretch p g
@@ -81,3 +74,21 @@ hears_more stretch b p g r phase count memory then t h =
       subst (λ o. Tells longer (Ok o) then) (sym t.tells)
           (tells longer s.body s.gathered memory then (ap (λ x. x.body) (sym next)) t.laid_front),
     )
+
+-- the same of every stretch
+pub told : (p : Phase) (g : List ℕ) (b : ℕ) (r : Option ℕ) (phase : Phase) (count : ℕ) (memory then : List ℕ) → Took (step p g b) r phase count memory then
+    → (stretch : List ℕ) → Holds stretch p g → Holds (stretch ++ b ∷ []) phase (take count then) × Tells (stretch ++ b ∷ []) (Ok r) then
+told p g b r phase count memory then t stretch = hears_more stretch b p g r phase count memory then t
+
+-- a step in the first elements of a memory, and what is left of it, is one in the whole
+pub widened : (p : Phase) (g : ℕ) (memory : List ℕ) (b : ℕ) (r : Option ℕ) (phase : Phase) (count : ℕ) (first then : List ℕ) (n : ℕ) → g ≤ n → n ≤ length memory → first ≡ take n memory
+    → length (then ++ drop n memory) ≡ length memory → Took (step p (take g first) b) r phase count first then → Took (step p (take g memory) b) r phase count memory (then ++ drop n memory)
+widened p g memory b r phase count first then n few long is full t =
+    let f : List ℕ = front (step p (take g first) b) in
+    let short : length f ≤ length first
+    = omega (arith, full, length-append then (drop n memory), length-drop n memory, ap length is, length-take-le n memory long, ap length t.laid_front, length-append f (drop (length f) first)) in
+    let over : then ++ drop n memory ≡ laid f memory
+    = ap (λ l. l ++ drop n memory) t.laid_front ∙ append_assoc f (drop (length f) first) (drop n memory)
+    ∙ ap (λ l. f ++ l) (sym (drop-append-le (length f) first (drop n memory) short) ∙ ap (drop (length f)) (ap (λ l. l ++ drop n memory) is ∙ take-append-drop n memory)) in
+    subst (λ l. Took (step p l b) r phase count memory (then ++ drop n memory)) (ap (take g) is ∙ take-take g n memory few)
+    (record { tells = t.tells; moved = t.moved; counted = t.counted; laid_front = over })

@@ -15,7 +15,7 @@ pub struct Body<'a> {
 }
 
 // A frame whose checksum fits. Only `Body::check` makes one, and it is neither `Copy` nor `Clone`.
-#[derive(Drop)]
+#[derive(Debug, Drop, PartialEq, Eq)]
 pub struct Frame<'a> {
     opcode: u8,
     data: &'a [u8],
@@ -59,21 +59,16 @@ struct Parts<'a> {
 fn split(bytes: &[u8]) -> Option<Parts<'_>>
     ensures { MatchOption result (OfNoFrame bytes.now) (λ p. Split bytes.now p.opcode p.«data».now p.summed.now p.sum) }
 {
-    let [summed @ .., low, high] = bytes else {
-        return None;
-    };
-    let [opcode, words, data @ ..] = summed else {
-        return None;
-    };
+    let (summed, sum) = bytes.split_last_chunk::<2>()?;
+    let ([opcode, words], data) = summed.split_first_chunk::<2>()?;
     if data.len() != 2 * *words as usize {
         return None;
     }
-    let sum = u16::from_le_bytes([*low, *high]);
     Some(Parts {
         opcode: *opcode,
         data,
         summed,
-        sum,
+        sum: u16::from_le_bytes(*sum),
     })
 }
 

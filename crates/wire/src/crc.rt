@@ -19,6 +19,7 @@ fn shift(register: u16, bit: u16) -> u16
 }
 
 // The register after the 16 bits of a word, the highest first.
+#[tactic(auto, using(crate::proofs::Sums::takes_more, crate::proofs::Sums::takes_none))]
 fn take_word(start: u16, word: u16) -> u16
     ensures { result ≡ takes 16 word start }
 {
@@ -33,13 +34,8 @@ fn take_word(start: u16, word: u16) -> u16
 fn take_words(start: u16, bytes: &[u8]) -> u16
     ensures { result ≡ register (words bytes.now) start }
 {
-    let mut sum = start;
-    let mut rest = bytes;
-    while let [low, high, more @ ..] = rest {
-        sum = take_word(sum, u16::from_le_bytes([*low, *high]));
-        rest = more;
-    }
-    sum
+    let (words, _) = bytes.as_chunks::<2>();
+    words.iter().fold(start, |sum, word| take_word(sum, u16::from_le_bytes(*word)))
 }
 
 // The register after a zero word, which ends the words of a body.
@@ -50,6 +46,7 @@ fn close(register: u16) -> u16
 }
 
 // The checksum of a body's bytes before its checksum: their words, low byte first, then a zero word.
+#[tactic(auto, using(crate::proofs::Sums::sum_is))]
 pub fn checksum(bytes: &[u8]) -> u16
     ensures { result ≡ checksum_of bytes.now }
 {
@@ -57,6 +54,7 @@ pub fn checksum(bytes: &[u8]) -> u16
 }
 
 // The checksum of a body whose parts lie apart.
+#[tactic(auto, using(crate::proofs::Sums::frame_sum))]
 pub fn frame_checksum(opcode: u8, words: u8, data: &[u8]) -> u16
     ensures { result ≡ checksum_of (opcode ∷ words ∷ «data».now) }
 {

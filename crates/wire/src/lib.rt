@@ -13,4 +13,4 @@ pub use crc::checksum;
 pub use faults::{Fault, Refusal};
 pub use framing::{lay, write};
 pub use laws::{frame_laws, receiver_laws, worked_facts};
-pub use receiving::{Phase, Receiver};
+pub use receiving::{LONGEST_BODY, Phase, Receiver};

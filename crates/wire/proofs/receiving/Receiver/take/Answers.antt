@@ -1,5 +1,5 @@
-use Rattle.std.proofs.Common.{take, arith}
-use Rattle.wire.proofs.Tellings.{taken, hears_more}
+use Rattle.std.proofs.Common.{take, arith, rules}
+use Rattle.wire.proofs.Tellings.{taken, told, widened}
 use Rattle.wire.proofs.receiving.Receiver.take.Goals as goal
 
 pub returns : goal.returns
@@ -7,7 +7,11 @@ returns c =
     let p = c.args.self.now.phase in
     let n = c.args.self.now.gathered in
     let m = c.args.memory.now in
+    let first = c.in-Some.ensures.cases in
+    let few = c.args.self.now.few in
+    let long = first.enough in
+    let t = widened p n m _ _ _ _ _ _ _ (omega (arith, few)) long first.same (search rules) c.advance.ensures.took in
     record {
-      outcome = taken p n m _ _ _ _ _ (omega arith) c.advance.ensures;
-      heard = λ stretch _ holds. hears_more stretch _ p (take n m) _ _ _ _ _ c.advance.ensures holds;
+      outcome = taken p n m _ _ _ _ _ (omega (arith, long)) t;
+      heard = λ stretch _. told p (take n m) _ _ _ _ _ _ t stretch;
     }
