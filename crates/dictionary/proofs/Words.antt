@@ -1,7 +1,7 @@
 -- A call has no fault exactly where the words hold: each check that does not apply gives one of them.
 use Rattle.std.proofs.Common.{◌≡◌, ℕ, ◌≤◌, Bool, true, false, cond, ltb, List, [], ◌∷◌, length, ℤ, ◌≤ℤ◌, Some, None, Option, refl, arith}
 use lib.Signed.{lt_z}
-use Rattle.std.proofs.lemmas.Bool.{true≢false, ltb-false, le-ltb}
+use Rattle.std.proofs.lemmas.Bool.{ltb-false, le-ltb}
 use Rattle.std.proofs.lemmas.Int.{ints}
 use Rattle.dictionary.specs.declared.Access.TheVariants.{Ro, Wo, Rw}
 use Rattle.dictionary.specs.declared.Shape.TheVariants.{Number, Run}
@@ -14,7 +14,7 @@ Clear [] = Unit {0}
 Clear (c ∷ cs) = (c.0 ≡ false) × Clear cs
 
 clear_one : {F : Type 0} (b : Bool) (f : F) (r : Option F) → cond b (Some f) r ≡ None → (b ≡ false) × (r ≡ None)
-clear_one true f r e = let z : ◌≡◌ {A = ℕ} 0 1 = cc in absurd (omega arith)
+clear_one true f r e = cc
 clear_one false f r e = (refl, e)
 
 pub clear : {F : Type 0} (cs : List (Bool × F)) → first cs ≡ None → Clear cs
@@ -24,9 +24,6 @@ clear (c ∷ cs) e = let h = clear_one c.0 c.1 (first cs) e in (h.0, clear cs h.
 pub clear_back : {F : Type 0} (cs : List (Bool × F)) → Clear cs → first cs ≡ None
 clear_back [] h = refl
 clear_back (c ∷ cs) h = rw h.0 (clear_back cs h.1)
-
-off : {P : Type 0} → true ≡ false → P
-off e = absurd (true≢false e)
 
 le_from : (a b : ℤ) → lt_z a b ≡ false → b ≤ℤ a
 le_from a b e = grind (arith, ints)
@@ -49,10 +46,10 @@ abbrev pub ValueClear : Entry → Bytes → Type 0
 ValueClear e v = (over_high e v ≡ false) × (under_low e v ≡ false)
 
 pub reads_from : (e : Entry) → ReadClear e → MayBeRead e
-reads_from no_index h = off h.0
-reads_from no_subindex h = off h.1
+reads_from no_index h = cc h.0
+reads_from no_subindex h = cc h.1
 reads_from (present Ro s) h = tt
-reads_from (present Wo s) h = off h.2
+reads_from (present Wo s) h = cc h.2
 reads_from (present Rw s) h = tt
 
 pub reads_back : (e : Entry) → MayBeRead e → ReadClear e
@@ -69,9 +66,9 @@ even : (w n : ℕ) → n ≡ w → (ltb w n ≡ false) × (ltb n w ≡ false)
 even w n e = (le-ltb w n (omega arith), le-ltb n w (omega arith))
 
 pub takes_from : (e : Entry) (n : ℕ) → WriteClear e → LengthClear e n → TakesLength e n
-takes_from no_index n h l = off h.0
-takes_from no_subindex n h l = off h.1
-takes_from (present Ro s) n h l = off h.2
+takes_from no_index n h l = cc h.0
+takes_from no_subindex n h l = cc h.1
+takes_from (present Ro s) n h l = cc h.2
 takes_from (present Wo (Number w s low high)) n h l = (tt, exact w n l.0 l.1)
 takes_from (present Rw (Number w s low high)) n h l = (tt, exact w n l.0 l.1)
 takes_from (present Wo (Run capacity)) n h l = (tt, ltb-false capacity n l.0)
@@ -87,9 +84,9 @@ takes_back (present Wo (Run capacity)) n h = ((refl, refl, refl), (le-ltb capaci
 takes_back (present Rw (Run capacity)) n h = ((refl, refl, refl), (le-ltb capacity n h.1, refl))
 
 pub admits_from : (e : Entry) (v : Bytes) → WriteClear e → LengthClear e (length v) → ValueClear e v → Admits e v
-admits_from no_index v h l r = off h.0
-admits_from no_subindex v h l r = off h.1
-admits_from (present Ro s) v h l r = off h.2
+admits_from no_index v h l r = cc h.0
+admits_from no_subindex v h l r = cc h.1
+admits_from (present Ro s) v h l r = cc h.2
 admits_from (present Wo (Number w s low high)) v h l r =
     (tt, exact w (length v) l.0 l.1, (le_from (number_value s w v) low r.1, le_from high (number_value s w v) r.0))
 admits_from (present Rw (Number w s low high)) v h l r =

@@ -5,6 +5,7 @@ use Rattle.dictionary.specs.declared.Access.{Access}
 use Rattle.dictionary.specs.declared.Access.TheVariants.{Ro, Wo, Rw}
 use Rattle.dictionary.specs.declared.Fault.{Fault}
 use Rattle.dictionary.specs.declared.Fault.TheVariants.{NoIndex, NoSubindex, WriteOnly, ReadOnly, TooLong, TooShort, OverHigh, UnderLow, ShortMemory}
+use Rattle.dictionary.specs.declared.Shape.{Shape}
 use Rattle.dictionary.specs.declared.Shape.TheVariants.{Number, Run}
 use Rattle.dictionary.specs.Objects.{Bytes, Entry, no_index, no_subindex, present, number_value}
 
@@ -106,3 +107,15 @@ read_fault e v room = first (read_checks e v room)
 
 abbrev pub write_fault : Entry → Bytes → Option Fault
 write_fault e v = first (write_checks e v)
+
+-- Of a part of an entry alone: why an access refuses a read or a write, and a shape a value of n bytes.
+
+abbrev pub access_read_fault : Access → Option Fault
+access_read_fault access = first ((is_wo access, WriteOnly) ∷ [])
+
+abbrev pub access_write_fault : Access → Option Fault
+access_write_fault access = first ((is_ro access, ReadOnly) ∷ [])
+
+abbrev pub length_fault : Shape → ℕ → Option Fault
+length_fault (Number w s low high) n = first ((nat_lt w n, TooLong) ∷ (nat_lt n w, TooShort) ∷ [])
+length_fault (Run capacity) n = first ((nat_lt capacity n, TooLong) ∷ [])

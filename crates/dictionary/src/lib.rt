@@ -2,7 +2,8 @@
 #![tactic(auto)]
 
 ghost use Rattle.std.specs.Prelude.{◌≡◌};
-ghost use Rattle.dictionary.specs.Calls.{look_answer, read_answer, memory_after_read, write_answer, after_write};
+ghost use Rattle.dictionary.specs.Calls.{answer, look_answer, read_answer, memory_after_read, write_answer, after_write};
+ghost use Rattle.dictionary.specs.Checks.{access_read_fault, access_write_fault, length_fault};
 ghost use Rattle.dictionary.specs.Faults.{abort_code};
 ghost use Rattle.dictionary.specs.Laws.{CallsInWords};
 ghost use Rattle.dictionary.specs.Objects.{Objects, Sound};
@@ -22,6 +23,26 @@ pub enum Access {
     Rw,
 }
 
+impl Access {
+    pub fn readable(self) -> Result<(), Fault>
+        ensures { result ≡ answer (access_read_fault self) tt }
+    {
+        match self {
+            Access::Ro | Access::Rw => Ok(()),
+            Access::Wo => Err(Fault::WriteOnly),
+        }
+    }
+
+    pub fn writable(self) -> Result<(), Fault>
+        ensures { result ≡ answer (access_write_fault self) tt }
+    {
+        match self {
+            Access::Wo | Access::Rw => Ok(()),
+            Access::Ro => Err(Fault::ReadOnly),
+        }
+    }
+}
+
 // What values an object takes.
 #[derive(Clone, Copy, PartialEq, Eq, Debug)]
 pub enum Shape {
@@ -38,6 +59,20 @@ pub enum Shape {
     },
 }
 
+impl Shape {
+    // A number takes exactly its width, a run at most its capacity.
+    pub fn takes_length(self, length: usize) -> Result<(), Fault>
+        ensures { result ≡ answer (length_fault self length) tt }
+    {
+        match self {
+            Shape::Number { width, .. } if length > width as usize => Err(Fault::TooLong),
+            Shape::Number { width, .. } if length < width as usize => Err(Fault::TooShort),
+            Shape::Run { capacity } if length > capacity as usize => Err(Fault::TooLong),
+            _ => Ok(()),
+        }
+    }
+}
+
 // What a dictionary tells of an object without reading it.
 #[derive(Clone, Copy, PartialEq, Eq, Debug)]
 pub struct Look {
@@ -47,42 +82,31 @@ pub struct Look {
     pub length: usize,
 }
 
-// Why a call on an object is refused.
+// Why a call on an object is refused, with its abort code of CiA 301.
 #[derive(Clone, Copy, PartialEq, Eq, Debug)]
 pub enum Fault {
-    NoIndex,
-    NoSubindex,
+    NoIndex = 0x0602_0000,
+    NoSubindex = 0x0609_0011,
     // A read of an object that can only be written.
-    WriteOnly,
+    WriteOnly = 0x0601_0001,
     // A write of an object that can only be read.
-    ReadOnly,
+    ReadOnly = 0x0601_0002,
     // A command for numbers, on a run of bytes.
-    NotNumber,
-    TooLong,
-    TooShort,
-    OverHigh,
-    UnderLow,
+    NotNumber = 0x0607_0010,
+    TooLong = 0x0607_0012,
+    TooShort = 0x0607_0013,
+    OverHigh = 0x0609_0031,
+    UnderLow = 0x0609_0032,
     // The memory of a read is shorter than the value.
-    ShortMemory,
+    ShortMemory = 0x0504_0005,
 }
 
 impl Fault {
-    // The abort code of CiA 301.
+    // The abort code of CiA 301. No trait over the faults: each impl would be this line again.
     pub fn code(self) -> u32
         ensures { result ≡ abort_code self }
     {
-        match self {
-            Fault::NoIndex => 0x0602_0000,
-            Fault::NoSubindex => 0x0609_0011,
-            Fault::WriteOnly => 0x0601_0001,
-            Fault::ReadOnly => 0x0601_0002,
-            Fault::NotNumber => 0x0607_0010,
-            Fault::TooLong => 0x0607_0012,
-            Fault::TooShort => 0x0607_0013,
-            Fault::OverHigh => 0x0609_0031,
-            Fault::UnderLow => 0x0609_0032,
-            Fault::ShortMemory => 0x0504_0005,
-        }
+        self as u32
     }
 }
 
@@ -109,8 +133,7 @@ pub trait Dictionary {
 }
 
 // The three calls do what their words say: what is accepted, what a write leaves, what a refusal leaves.
-pub fn calls_in_words() -> u8
+#[tactic(auto, using(crate::proofs::Laws::calls_in_words_lem))]
+pub fn calls_in_words()
     ensures { CallsInWords }
-{
-    0
-}
+{}
