@@ -1,66 +1,47 @@
 // What the cases share.
+ghost use Rattle.std.specs.Prelude.{◌≡◌, pos, false};
+ghost use Rattle.std.specs.Result.{result_map_both};
+ghost use Rattle.dictionary.specs.Calls.{look_answer};
+
 use dictionary::{Access, Address, Dictionary, Fault};
 use tables::{NumberRecord, RunRecord};
 
-pub const NO_INDEX: u32 = 0x0602_0000;
-
-pub const NO_SUBINDEX: u32 = 0x0609_0011;
-
-pub const WRITE_ONLY: u32 = 0x0601_0001;
-
-pub const READ_ONLY: u32 = 0x0601_0002;
-
-pub const TOO_LONG: u32 = 0x0607_0012;
-
-pub const TOO_SHORT: u32 = 0x0607_0013;
-
-pub const OVER_HIGH: u32 = 0x0609_0031;
-
-pub const UNDER_LOW: u32 = 0x0609_0032;
-
-pub const SHORT_MEMORY: u32 = 0x0504_0005;
-
-pub fn at(index: u16, subindex: u8) -> Address {
+pub fn at(index: u16, subindex: u8) -> Address
+    ensures { result ≡ record { index = index; subindex = subindex } }
+{
     Address { index, subindex }
 }
 
-// The code of a look, 0 if it is accepted.
-pub fn look<D: Dictionary>(d: &D, index: u16, subindex: u8) -> u32 {
-    match d.look(at(index, subindex)) {
-        Ok(_) => 0,
-        Err(fault) => fault.code(),
-    }
+// The value length that a look tells.
+pub fn length<D: Dictionary>(d: &D, at: Address) -> Result<usize, Fault>
+    ensures { result ≡ result_map_both (λ told. told.length) (λ e. e) (look_answer (D.meaning d.now) at) }
+{
+    Ok(d.look(at)?.length)
 }
 
-// The value length that a look tells, 9999 if it is refused.
-pub fn length<D: Dictionary>(d: &D, index: u16, subindex: u8) -> usize {
-    match d.look(at(index, subindex)) {
-        Ok(told) => told.length,
-        Err(_) => 9999,
-    }
-}
-
-// The code of a read, 0 if it is accepted.
-pub fn read<D: Dictionary>(d: &D, index: u16, subindex: u8, memory: &mut [u8]) -> u32 {
-    match d.read(at(index, subindex), memory) {
-        Ok(_) => 0,
-        Err(fault) => fault.code(),
-    }
-}
-
-// The code of a write, 0 if it is accepted.
-pub fn write<D: Dictionary>(d: &mut D, index: u16, subindex: u8, bytes: &[u8]) -> u32 {
-    match d.write(at(index, subindex), bytes) {
-        Ok(_) => 0,
-        Err(fault) => fault.code(),
-    }
+// Each refusal has the code of CiA 301.
+#[test]
+fn codes(rt: HostRuntime) {
+    assert_eq!(rt; Fault::NoIndex.code(), 0x0602_0000);
+    assert_eq!(rt; Fault::NoSubindex.code(), 0x0609_0011);
+    assert_eq!(rt; Fault::WriteOnly.code(), 0x0601_0001);
+    assert_eq!(rt; Fault::ReadOnly.code(), 0x0601_0002);
+    assert_eq!(rt; Fault::NotNumber.code(), 0x0607_0010);
+    assert_eq!(rt; Fault::TooLong.code(), 0x0607_0012);
+    assert_eq!(rt; Fault::TooShort.code(), 0x0607_0013);
+    assert_eq!(rt; Fault::OverHigh.code(), 0x0609_0031);
+    assert_eq!(rt; Fault::UnderLow.code(), 0x0609_0032);
+    assert_eq!(rt; Fault::ShortMemory.code(), 0x0504_0005);
 }
 
 // A number without sign that takes every value of its width.
-pub fn number(index: u16, subindex: u8, width: u8, value: u32) -> NumberRecord {
+pub fn number(index: u16, subindex: u8, width: u8, value: u32) -> NumberRecord
+    ensures { result ≡ record { address = record { index = index; subindex = subindex }; width = width; signed = false; access = Access.Rw; low = pos 0; high = pos 0xffff_ffff; value = value } }
+{
     ranged(at(index, subindex), width, false, 0, 0xffff_ffff, value)
 }
 
+// A record by its fields: a struct of them would be the record itself.
 pub fn ranged(
     address: Address,
     width: u8,
@@ -68,7 +49,9 @@ pub fn ranged(
     low: i64,
     high: i64,
     value: u32,
-) -> NumberRecord {
+) -> NumberRecord
+    ensures { result ≡ record { address = address; width = width; signed = signed; access = Access.Rw; low = low; high = high; value = value } }
+{
     NumberRecord {
         address,
         width,
@@ -80,7 +63,9 @@ pub fn ranged(
     }
 }
 
-pub fn run(index: u16, subindex: u8, access: Access, capacity: u32, length: u32) -> RunRecord {
+pub fn run(index: u16, subindex: u8, access: Access, capacity: u32, length: u32) -> RunRecord
+    ensures { result ≡ record { address = record { index = index; subindex = subindex }; access = access; capacity = capacity; length = length } }
+{
     RunRecord {
         address: at(index, subindex),
         access,

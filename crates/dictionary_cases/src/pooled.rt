@@ -1,6 +1,6 @@
 // Runs: places in the pool, capacities, empty values, what a write leaves.
-use crate::cases::*;
-use dictionary::Access;
+use crate::cases::{at, length, run};
+use dictionary::{Access, Dictionary, Fault};
 use tables::{RunRecord, Runs};
 
 // Five runs over a pool of 8 bytes: the last one ends past the pool.
@@ -20,16 +20,19 @@ fn reads(rt: HostRuntime) {
     let mut pool = [1, 2, 3, 4, 5, 6, 7, 8];
     let runs = Runs::new(&mut records, &mut pool);
     let mut memory = [9u8; 4];
-    assert_eq!(rt; read(&runs, 0x3000, 1, &mut memory), 0);
+    assert_eq!(rt; runs.read(at(0x3000, 1), &mut memory), Ok(2));
     assert!(rt; memory == [1, 2, 9, 9]);
-    assert_eq!(rt; read(&runs, 0x3000, 3, &mut memory), 0);
+    assert_eq!(rt; runs.read(at(0x3000, 3), &mut memory), Ok(4));
     assert!(rt; memory == [5, 6, 7, 8]);
-    assert_eq!(rt; read(&runs, 0x3000, 3, &mut memory[0..3]), SHORT_MEMORY);
-    assert_eq!(rt; read(&runs, 0x3000, 2, &mut []), 0);
-    assert_eq!(rt; read(&runs, 0x3000, 4, &mut []), WRITE_ONLY);
-    assert_eq!(rt; length(&runs, 0x3000, 4), 0);
-    assert_eq!(rt; look(&runs, 0x3000, 5), NO_SUBINDEX);
-    assert_eq!(rt; look(&runs, 0x3001, 1), NO_INDEX);
+    assert_eq!(rt;
+        runs.read(at(0x3000, 3), &mut memory[0..3]),
+        Err(Fault::ShortMemory)
+    );
+    assert_eq!(rt; runs.read(at(0x3000, 2), &mut []), Ok(0));
+    assert_eq!(rt; runs.read(at(0x3000, 4), &mut []), Err(Fault::WriteOnly));
+    assert_eq!(rt; length(&runs, at(0x3000, 4)), Ok(0));
+    assert_eq!(rt; runs.look(at(0x3000, 5)), Err(Fault::NoSubindex));
+    assert_eq!(rt; runs.look(at(0x3001, 1)), Err(Fault::NoIndex));
 }
 
 // Only the value's bytes and the length change; a shorter value leaves the bytes past it.
@@ -38,13 +41,19 @@ fn writes(rt: HostRuntime) {
     let mut records = five();
     let mut pool = [1, 2, 3, 4, 5, 6, 7, 8];
     let mut runs = Runs::new(&mut records, &mut pool);
-    assert_eq!(rt; write(&mut runs, 0x3000, 1, &[10, 11, 12]), 0);
-    assert_eq!(rt; write(&mut runs, 0x3000, 1, &[13]), 0);
-    assert_eq!(rt; write(&mut runs, 0x3000, 1, &[1, 2, 3, 4, 5]), TOO_LONG);
-    assert_eq!(rt; write(&mut runs, 0x3000, 2, &[]), 0);
-    assert_eq!(rt; write(&mut runs, 0x3000, 2, &[1]), TOO_LONG);
-    assert_eq!(rt; write(&mut runs, 0x3000, 3, &[1, 2, 3, 4, 5]), READ_ONLY);
-    assert_eq!(rt; length(&runs, 0x3000, 1), 1);
+    assert_eq!(rt; runs.write(at(0x3000, 1), &[10, 11, 12]), Ok(()));
+    assert_eq!(rt; runs.write(at(0x3000, 1), &[13]), Ok(()));
+    assert_eq!(rt;
+        runs.write(at(0x3000, 1), &[1, 2, 3, 4, 5]),
+        Err(Fault::TooLong)
+    );
+    assert_eq!(rt; runs.write(at(0x3000, 2), &[]), Ok(()));
+    assert_eq!(rt; runs.write(at(0x3000, 2), &[1]), Err(Fault::TooLong));
+    assert_eq!(rt;
+        runs.write(at(0x3000, 3), &[1, 2, 3, 4, 5]),
+        Err(Fault::ReadOnly)
+    );
+    assert_eq!(rt; length(&runs, at(0x3000, 1)), Ok(1));
     drop(runs);
     assert!(rt; pool == [13, 11, 12, 4, 5, 6, 7, 8]);
 }
@@ -62,8 +71,21 @@ fn places(rt: HostRuntime) {
     let mut pool = [1, 2, 3, 4];
     let runs = Runs::new(&mut records, &mut pool);
     let mut memory = [0u8; 2];
-    assert_eq!(rt; read(&runs, 0x3100, 2, &mut memory), 0);
+    assert_eq!(rt; runs.read(at(0x3100, 2), &mut memory), Ok(2));
     assert!(rt; memory == [3, 4]);
-    assert_eq!(rt; look(&runs, 0x3100, 1), NO_SUBINDEX);
-    assert_eq!(rt; look(&runs, 0x3101, 3), NO_INDEX);
+    assert_eq!(rt; runs.look(at(0x3100, 1)), Err(Fault::NoSubindex));
+    assert_eq!(rt; runs.look(at(0x3101, 3)), Err(Fault::NoIndex));
+}
+
+// A run of capacity 4,096 counts, one of 4,097 does not, even where the pool has room for it.
+#[test]
+fn capacities(rt: HostRuntime) {
+    let mut pool = [7; 4097];
+    let mut largest = [run(0x3200, 1, Access::Rw, 4096, 1)];
+    let runs = Runs::new(&mut largest, &mut pool);
+    assert_eq!(rt; length(&runs, at(0x3200, 1)), Ok(1));
+    drop(runs);
+    let mut over = [run(0x3200, 1, Access::Rw, 4097, 1)];
+    let runs = Runs::new(&mut over, &mut pool);
+    assert_eq!(rt; runs.look(at(0x3200, 1)), Err(Fault::NoIndex));
 }

@@ -1,5 +1,5 @@
 -- A write to a dictionary that is made of others is a write to the one of them that has the index.
-use Rattle.std.proofs.Common.{◌≡◌, ℕ, ◌+◌, ◌-◌, ◌*◌, ◌≤◌, Bool, true, false, cond, eqb, ltb, List, [], ◌∷◌, drop, Some, None, Err, Option, Result, sym, refl, ap, ◌∙◌, ap₂, ⊎_elim, arith}
+use Rattle.std.proofs.Common.{◌≡◌, ℕ, ◌+◌, ◌-◌, ◌*◌, ◌≤◌, Bool, true, false, cond, eqb, ltb, List, [], ◌∷◌, drop, Some, None, Ok, Err, Option, Result, sym, refl, ap, ◌∙◌, ap₂, ⊎_elim, arith}
 use mathlib.Core.Path.{fun_ext}
 use Rattle.std.proofs.lemmas.Bool.{cases_Bool, eqb-true, eq-eqb, ne_eqb, and_parts, leb-true, cases_eq}
 use Rattle.dictionary.specs.declared.Address.{Address}
@@ -8,10 +8,7 @@ use Rattle.dictionary.specs.declared.Fault.TheVariants.{NoIndex}
 use Rattle.dictionary.specs.Objects.{Bytes, Object, Objects, Entry, no_index, no_subindex, present, entry_of, entry_under, look, put, put_under}
 use Rattle.dictionary.specs.Checks.{first, write_checks, write_fault}
 use Rattle.dictionary.specs.Calls.{answer, leaves, write_answer, after_write}
-use Rattle.layers.specs.Layers.{or_else, paired, unless_known, second_after, of_axis, shifted, unshifted, written_at, below_after}
-
-clash : {X : Type 0} → ◌≡◌ {A = ℕ} 0 1 → X
-clash z = absurd (omega (arith, z))
+use Rattle.layers.specs.Layers.{or_else, paired, unless_known, second_after, of_axis, shifted, unshifted, found_below}
 
 -- Pair.
 
@@ -21,14 +18,8 @@ module _ (d e : Objects) (a : Address) (v : Bytes) where
     second_look : look (paired d e) a ≡ look e a
     second_look = ap (λ x. entry_under (or_else x (e a.index)) a.subindex) none
 
-    pub second_answer : write_answer (paired d e) a v ≡ write_answer e a v
-    second_answer = ap (λ x. answer (write_fault x v) (tt {0})) second_look
-
     pub first_kept : after_write d a v ≡ d
     first_kept = ap (λ x. leaves (write_fault (entry_under x a.subindex) v) (put d a v) d) none
-
-    pub second_is : second_after d e a v ≡ after_write e a v
-    second_is = ap (λ x. unless_known x (after_write e a v) e) none
 
     put_at : (i : ℕ) → put (paired d e) a v i ≡ paired d (put e a v) i
     put_at i =
@@ -84,12 +75,12 @@ pass_by true f r n g e = n (cc)
 pass_by false f r n g e = g e
 
 not_found : (cs : List (Bool × Fault)) → NoneFinds cs → answer (first cs) (tt {0}) ≡ Err NoIndex → ⊥
-not_found [] n e = clash (cc)
+not_found [] n e = cc
 not_found (c ∷ cs) n e = pass_by c.0 c.1 (first cs) n.0 (not_found cs n.1) e
 
 entry_known : (x : Option Object) → entry_of x ≡ no_index → ⊥
-entry_known None e = clash (cc)
-entry_known (Some o) e = clash (cc)
+entry_known None e = cc
+entry_known (Some o) e = cc
 
 knows : (x : Option (ℕ → Option Object)) (s : ℕ) → (entry_under x s ≡ no_index → ⊥) → (subs : ℕ → Option Object) × (x ≡ Some subs)
 knows None s n = absurd (n refl)
@@ -97,9 +88,9 @@ knows (Some subs) s n = (subs, refl)
 
 entry_absent : (x : Entry) (v : Bytes) → answer (write_fault x v) (tt {0}) ≡ Err NoIndex → x ≡ no_index
 entry_absent no_index v e = refl
-entry_absent no_subindex v e = clash (cc)
+entry_absent no_subindex v e = cc
 entry_absent (present access shape) v e =
-    absurd (not_found (drop 1 (write_checks (present access shape) v)) ((λ h. clash (cc)), ((λ h. clash (cc)), ((λ h. clash (cc)), ((λ h. clash (cc)), ((λ h. clash (cc)), ((λ h. clash (cc)), tt)))))) e)
+    absurd (not_found (drop 1 (write_checks (present access shape) v)) (λ h. cc, (λ h. cc, (λ h. cc, (λ h. cc, (λ h. cc, (λ h. cc, tt)))))) e)
 
 unknown : (x : Option (ℕ → Option Object)) (s : ℕ) → entry_under x s ≡ no_index → x ≡ None
 unknown None s e = refl
@@ -113,20 +104,17 @@ index_unknown d a v e = unknown (d a.index) a.subindex (entry_absent (look d a) 
 pub index_known : (d : Objects) (a : Address) (v : Bytes) → (write_answer d a v ≡ Err NoIndex → ⊥) → (subs : ℕ → Option Object) × (d a.index ≡ Some subs)
 index_known d a v n = knows (d a.index) a.subindex (λ h. n (ap (λ x. answer (write_fault x v) (tt {0})) h))
 
--- what a write to a pair leaves and answers, by what the first of the two answered
+-- what a write to a pair leaves, where the first of the two answered that the index is absent
+pub after_second : (d e : Objects) (a : Address) (v : Bytes) → write_answer d a v ≡ Err NoIndex → (d' e' : Objects) → d' ≡ after_write d a v → e' ≡ after_write e a v → paired d' e' ≡ after_write (paired d e) a v
+after_second d e a v refused d' e' p s =
+    let none = index_unknown d a v refused in
+    ap₂ paired (p ∙ first_kept d e a v none) s ∙ sym (written_second d e a v none)
+
+-- what a write to a pair answers and leaves, where the first of the two did not answer that the index is absent
 pub record PairWritten (d e : Objects) (a : Address) (v : Bytes) (r : Result (Unit {0}) Fault) (d' e' : Objects) : Type 0 where
   pub answer : r ≡ write_answer (paired d e) a v
   pub after : paired d' e' ≡ after_write (paired d e) a v
   pub second : e' ≡ second_after d e a v
-
-pub by_second : (d e : Objects) (a : Address) (v : Bytes) → write_answer d a v ≡ Err NoIndex → (r : Result (Unit {0}) Fault) (d' e' : Objects) → d' ≡ after_write d a v → r ≡ write_answer e a v → e' ≡ after_write e a v → PairWritten d e a v r d' e'
-by_second d e a v refused r d' e' p q s =
-    let none = index_unknown d a v refused in
-    record {
-      answer = q ∙ sym (second_answer d e a v none);
-      after = ap₂ paired (p ∙ first_kept d e a v none) s ∙ sym (written_second d e a v none);
-      second = s ∙ sym (second_is d e a v none);
-    }
 
 pub by_first : (d e : Objects) (a : Address) (v : Bytes) → (write_answer d a v ≡ Err NoIndex → ⊥) → (r : Result (Unit {0}) Fault) (d' : Objects) → d' ≡ after_write d a v → r ≡ write_answer d a v → PairWritten d e a v r d' e
 by_first d e a v taken r d' p q =
@@ -170,22 +158,13 @@ module _ (axis : ℕ) (d : Objects) (a : Address) (inside : of_axis axis a.index
   left_below v None = fun_ext (put_shifted v)
   left_below v (Some f) = refl
 
--- what a write to a shift leaves and answers, where the address is shown
-pub record ShiftWritten (axis : ℕ) (d : Objects) (a : Address) (v : Bytes) (r : Result (Unit {0}) Fault) (d' : Objects) : Type 0 where
-  pub answer : r ≡ write_answer (shifted axis d) a v
-  pub after : shifted axis d' ≡ after_write (shifted axis d) a v
-  pub below : d' ≡ below_after axis d a v
-
-pub by_below : (axis : ℕ) (d : Objects) (a b : Address) (v : Bytes) → Some b ≡ unshifted axis a → (r : Result (Unit {0}) Fault) (d' : Objects) → r ≡ write_answer d b v → d' ≡ after_write d b v → ShiftWritten axis d a v r d'
-by_below axis d a b v s r d' p q =
+-- what a write to a shift leaves, where the address is shown
+pub after_below : (axis : ℕ) (d d' : Objects) (a b : Address) (v : Bytes) → found_below (unshifted axis a) ≡ Ok b → d' ≡ after_write d b v → shifted axis d' ≡ after_write (shifted axis d) a v
+after_below axis d d' a b v s q =
     ⊎_elim
     (λ (h : of_axis axis a.index ≡ true).
     let z = rw h at s in
-    let same : b ≡ record { index = a.index - 0x800 * axis; subindex = a.subindex } = cc in
-    record {
-      answer = p ∙ ap (λ x. write_answer d x v) same ∙ sym (ap (λ x. answer (write_fault x v) (tt {0})) (look_below axis d a h));
-      after = ap (shifted axis) (q ∙ ap (λ x. after_write d x v) same) ∙ sym (ap (λ x. leaves (write_fault x v) (put (shifted axis d) a v) (shifted axis d)) (look_below axis d a h) ∙ left_below axis d a h v (write_fault (look d (below axis d a h)) v));
-      below = q ∙ ap (λ x. written_at x d v) s;
-    })
-    (λ (h : of_axis axis a.index ≡ false). let z = rw h at s in clash (cc))
+    let same : b ≡ below axis d a h = cc in
+    ap (shifted axis) (q ∙ ap (λ x. after_write d x v) same) ∙ sym (ap (λ x. leaves (write_fault x v) (put (shifted axis d) a v) (shifted axis d)) (look_below axis d a h) ∙ left_below axis d a h v (write_fault (look d (below axis d a h)) v)))
+    (λ (h : of_axis axis a.index ≡ false). let z = rw h at s in cc)
     (cases_Bool (of_axis axis a.index))

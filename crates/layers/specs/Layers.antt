@@ -1,7 +1,9 @@
 -- What dictionaries made of others mean, and what a write to them leaves of those below.
 -- Assumes nothing.
-use Rattle.std.specs.Prelude.{ℕ, ◌+◌, ◌-◌, ◌*◌, Bool, cond, ◌&&◌, Some, None, Option, nat_le, nat_lt}
+use Rattle.std.specs.Prelude.{ℕ, ◌+◌, ◌-◌, ◌*◌, Bool, cond, ◌&&◌, Some, None, Ok, Err, Option, Result, nat_le, nat_lt}
 use Rattle.dictionary.specs.declared.Address.{Address}
+use Rattle.dictionary.specs.declared.Fault.{Fault}
+use Rattle.dictionary.specs.declared.Fault.TheVariants.{NoIndex}
 use Rattle.dictionary.specs.Objects.{Bytes, Object, Objects}
 use Rattle.dictionary.specs.Calls.{after_write}
 
@@ -36,6 +38,11 @@ shifted axis d i = cond (of_axis axis i) (d (i - 0x800 * axis)) None
 -- where an address is found below
 abbrev pub unshifted : ℕ → Address → Option Address
 unshifted axis a = cond (of_axis axis a.index) (Some (record { index = a.index - 0x800 * axis; subindex = a.subindex })) None
+
+-- an address that is shown nowhere has no index
+abbrev pub found_below : Option Address → Result Address Fault
+found_below None = Err NoIndex
+found_below (Some b) = Ok b
 
 abbrev pub written_at : Option Address → Objects → Bytes → Objects
 written_at None d v = d

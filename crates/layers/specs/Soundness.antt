@@ -2,7 +2,7 @@
 -- `sound` of Pair and Shift cites them.
 -- Assumes nothing.
 use Rattle.std.specs.Prelude.{◌≡◌, ℕ, ◌-◌, ◌*◌, true, false, length, Some, None, Option}
-use Rattle.std.proofs.Common.{⊎_elim, arith}
+use Rattle.std.proofs.Common.{⊎_elim}
 use Rattle.std.proofs.lemmas.Bool.{cases_Bool}
 use Rattle.dictionary.specs.declared.Access.{Access}
 use Rattle.dictionary.specs.declared.Shape.{Shape}
@@ -37,11 +37,11 @@ shifted_sound axis d f = record {
   allowed = λ a access shape e.
       ⊎_elim
       (λ (b : of_axis axis a.index ≡ true). rw b (f.allowed (record { index = a.index - 0x800 * axis; subindex = a.subindex }) access shape (rw b at e)))
-      (λ (b : of_axis axis a.index ≡ false). let z = rw b at e in let y : ◌≡◌ {A = ℕ} 0 1 = cc in absurd (omega arith))
+      (λ (b : of_axis axis a.index ≡ false). let z = rw b at e in cc)
       (cases_Bool (of_axis axis a.index));
   addressed = λ i subs e.
       ⊎_elim
       (λ (b : of_axis axis i ≡ true). f.addressed (i - 0x800 * axis) subs (rw b at e))
-      (λ (b : of_axis axis i ≡ false). let z = rw b at e in let y : ◌≡◌ {A = ℕ} 0 1 = cc in absurd (omega arith))
+      (λ (b : of_axis axis i ≡ false). let z = rw b at e in cc)
       (cases_Bool (of_axis axis i));
 }

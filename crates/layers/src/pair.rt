@@ -13,6 +13,7 @@ pub struct Pair<D, E> {
     pub second: E,
 }
 
+// Three times a `match` of two lines: an `or_else` would have to match on the fault too, and give any other back.
 impl<D: Dictionary, E: Dictionary> Dictionary for Pair<D, E> {
     ghost meaning = { λ p. paired (D.Dictionary.meaning p.first) (E.Dictionary.meaning p.second) };
 

@@ -2,7 +2,7 @@
 ghost use Rattle.std.specs.Prelude.{◌≡◌};
 ghost use Rattle.dictionary.specs.Calls.{write_answer, after_write};
 ghost use Rattle.layers.specs.Axes.{axis_number};
-ghost use Rattle.layers.specs.Layers.{shifted, unshifted, below_after};
+ghost use Rattle.layers.specs.Layers.{shifted, unshifted, found_below, below_after};
 ghost use Rattle.layers.specs.Soundness.{shifted_sound};
 
 use crate::axis::Axis;
@@ -22,21 +22,16 @@ impl<D> Shift<D> {
     {
         Shift { axis, below }
     }
-}
 
-// Where an address of an axis is found below.
-fn unshift(axis: Axis, at: Address) -> Option<Address>
-    ensures { result ≡ unshifted (axis_number axis) at }
-{
-    let offset = 0x800 * u32::from(axis.number());
-    let index = u32::from(at.index);
-    if 0x6000 + offset <= index && index < 0x6800 + offset {
-        Some(Address {
-            index: (index - offset) as u16,
-            subindex: at.subindex,
-        })
-    } else {
-        None
+    // Where an address is found below.
+    fn unshift(&self, at: Address) -> Result<Address, Fault>
+        ensures { result ≡ found_below (unshifted (axis_number self.now.axis) at) }
+    {
+        let offset = 0x800 * u16::from(self.axis.number());
+        match at.index.checked_sub(offset) {
+            Some(index @ 0x6000..=0x67ff) => Ok(Address { index, ..at }),
+            _ => Err(Fault::NoIndex),
+        }
     }
 }
 
@@ -46,17 +41,11 @@ impl<D: Dictionary> Dictionary for Shift<D> {
     ghost sound = { λ s. shifted_sound (axis_number s.axis) (D.Dictionary.meaning s.below) (D.Dictionary.sound s.below) };
 
     fn look(&self, at: Address) -> Result<Look, Fault> {
-        match unshift(self.axis, at) {
-            Some(at) => self.below.look(at),
-            None => Err(Fault::NoIndex),
-        }
+        self.below.look(self.unshift(at)?)
     }
 
     fn read(&self, at: Address, memory: &mut [u8]) -> Result<usize, Fault> {
-        match unshift(self.axis, at) {
-            Some(at) => self.below.read(at, memory),
-            None => Err(Fault::NoIndex),
-        }
+        self.below.read(self.unshift(at)?, memory)
     }
 
     fn write(&mut self, at: Address, bytes: &[u8]) -> Result<(), Fault>
@@ -65,9 +54,7 @@ impl<D: Dictionary> Dictionary for Shift<D> {
         ensures axis { self.new.axis ≡ self.old.axis }
         ensures below { D.Dictionary.meaning self.new.below ≡ below_after (axis_number self.old.axis) (D.Dictionary.meaning self.old.below) at bytes.now }
     {
-        match unshift(self.axis, at) {
-            Some(at) => self.below.write(at, bytes),
-            None => Err(Fault::NoIndex), // What lies below is left alone.
-        }
+        let at = self.unshift(at)?; // Where it is refused, what lies below is left alone.
+        self.below.write(at, bytes)
     }
 }

@@ -1,11 +1,11 @@
 -- The three calls at an address, by the object that it holds or by what is absent.
-use Rattle.std.proofs.Common.{◌≡◌, ℕ, ◌⊎◌, ◌++◌, length, drop, Some, None, Ok, Err, Option, sym, refl, ap, ◌∙◌, ap₂, ⊎_elim, arith}
+use Rattle.std.proofs.Common.{◌≡◌, ◌⊎◌, length, Some, None, Ok, Err, Option, refl, ap, ap₂, ⊎_elim}
 use Rattle.dictionary.specs.declared.Address.{Address}
 use Rattle.dictionary.specs.declared.Fault.{Fault}
 use Rattle.dictionary.specs.declared.Fault.TheVariants.{NoIndex, NoSubindex}
-use Rattle.dictionary.specs.Objects.{Bytes, Object, Objects, Entry, no_index, no_subindex, present, look, value}
-use Rattle.dictionary.specs.Checks.{read_fault, write_fault}
-use Rattle.dictionary.specs.Calls.{answer, leaves, told, read_of, memory_of, look_answer, read_answer, memory_after_read}
+use Rattle.dictionary.specs.Objects.{Bytes, Object, Objects, no_index, no_subindex, present, look}
+use Rattle.dictionary.specs.Checks.{write_fault}
+use Rattle.dictionary.specs.Calls.{answer, told, read_of, memory_of, look_answer, read_answer, memory_after_read}
 use Rattle.tables.proofs.Tables.{Holds}
 
 -- every call at the address has the fault
@@ -15,19 +15,11 @@ pub record Refuses (d : Objects) (a : Address) (e : Fault) : Type 0 where
   pub memory : (m : Bytes) → memory_after_read d a m ≡ m
   pub writes : (v : Bytes) → write_fault (look d a) v ≡ Some e
 
-refuses_as : (d : Objects) (a : Address) (e f : Fault) (x : Entry) → look d a ≡ x → told x (length (value d a)) ≡ Err f → ((m : Bytes) → read_fault x (value d a) (length m) ≡ Some f) → ((v : Bytes) → write_fault x v ≡ Some f) → e ≡ f → Refuses d a e
-refuses_as d a e f x h t r w s = record {
-  looks = ap (λ y. told y (length (value d a))) h ∙ t ∙ ap Err (sym s);
-  reads = λ m. ap (λ y. read_of y (value d a) m) h ∙ ap (λ y. answer y (length (value d a))) (r m) ∙ ap Err (sym s);
-  memory = λ m. ap (λ y. memory_of y (value d a) m) h ∙ ap (λ y. leaves y (value d a ++ drop (length (value d a)) m) m) (r m);
-  writes = λ v. ap (λ y. write_fault y v) h ∙ w v ∙ ap Some (sym s);
-}
-
 pub refuses : (d : Objects) (a : Address) (e : Fault) → ((e ≡ NoSubindex) × (look d a ≡ no_subindex)) ⊎ ((e ≡ NoIndex) × (look d a ≡ no_index)) → Refuses d a e
 refuses d a e h =
     ⊎_elim
-    (λ x. refuses_as d a e NoSubindex no_subindex x.1 refl (λ m. refl) (λ v. refl) x.0)
-    (λ x. refuses_as d a e NoIndex no_index x.1 refl (λ m. refl) (λ v. refl) x.0)
+    (λ (x : (e ≡ NoSubindex) × (look d a ≡ no_subindex)). record { looks = rw (x.1, x.0); reads = λ m. rw (x.1, x.0); memory = λ m. rw x.1; writes = λ v. rw (x.1, x.0) })
+    (λ (x : (e ≡ NoIndex) × (look d a ≡ no_index)). record { looks = rw (x.1, x.0); reads = λ m. rw (x.1, x.0); memory = λ m. rw x.1; writes = λ v. rw (x.1, x.0) })
     h
 
 module _ (d : Objects) (a : Address) (o : Object) (h : Holds d a o) where
@@ -46,8 +38,8 @@ module _ (d : Objects) (a : Address) (o : Object) (h : Holds d a o) where
 -- an answer tells whether there was a fault
 pub accepted : (f : Option Fault) (x : Unit {0}) → answer f x ≡ Ok x → f ≡ None
 accepted None x e = refl
-accepted (Some f) x e = let z : ◌≡◌ {A = ℕ} 0 1 = cc in absurd (omega arith)
+accepted (Some f) x e = cc
 
 pub faulted : (f : Option Fault) (x : Unit {0}) (e : Fault) → answer f x ≡ Err e → f ≡ Some e
-faulted None x e h = let z : ◌≡◌ {A = ℕ} 0 1 = cc in absurd (omega arith)
+faulted None x e h = cc
 faulted (Some f) x e h = cc

@@ -1,6 +1,4 @@
-pub mod Bytes
 pub mod Searching
 pub mod Tables
 pub mod Calls
-pub mod NumberLaws
-pub mod RunLaws
+pub mod RecordLaws

@@ -1,24 +1,18 @@
 -- What a table means at an address, by the record that is meant, and what it means after a write to that record.
 use Rattle.std.proofs.Common.{◌≡◌, ℕ, zero, suc, ◌+◌, ◌<◌, ◌≤◌, Bool, true, false, cond, ◌&&◌, ◌||◌, eqb, ◌⊎◌, List, [], ◌∷◌, length, get_or, take, set, Some, None, sym, refl, ap, ◌∙◌, subst, ap₂, inl, inr, ⊎_elim, arith}
 use mathlib.Core.Path.{fun_ext}
-use Rattle.std.proofs.lemmas.Option.{slice_get-get_or, slice_get_past}
+use Rattle.std.proofs.lemmas.Option.{slice_get_within, get_or_from_slice_get}
 use Rattle.std.proofs.lemmas.List.Sums.{sum_by-cons}
-use Rattle.std.proofs.lemmas.Bool.{cond-true, cond-false, and_from, and_parts, and_left, eq-eqb, eqb-true, cases_Bool, cases_lt, both_ways, or_left, or_right}
+use Rattle.std.proofs.lemmas.Bool.Decides.{nat_tests}
+use Rattle.std.proofs.lemmas.Bool.{cond-true, cond-false, and_from, and_parts, and_left, eq-eqb, eqb-true, cases_Bool, or_left, or_right}
 use Rattle.std.specs.List.{slice_get}
 use Rattle.dictionary.specs.declared.Address.{Address}
 use Rattle.dictionary.specs.declared.Fault.{Fault}
 use Rattle.dictionary.specs.declared.Fault.TheVariants.{NoIndex, NoSubindex}
 use Rattle.dictionary.specs.Objects.{Bytes, Object, Objects, no_index, no_subindex, present, look, value, put, put_under, with_value}
 use Rattle.tables.specs.declared.search.Found.{Found}
-use Rattle.tables.specs.Tables.{Key, place_of, Counts, Located, Absent, Row, rows_from, has_index, first_at, table}
+use Rattle.tables.specs.Tables.{Key, place_of, Counts, Located, Absent, Row, rows_from, has_index, first_at, table, revalued}
 use Rattle.tables.proofs.Searching.{same_address}
-
-clash : {X : Type 0} → ◌≡◌ {A = ℕ} 0 1 → X
-clash z = absurd (omega (arith, z))
-
--- an object with another value
-abbrev pub revalued : Bytes → Object → Object
-revalued v o = record { access = o.access; shape = o.shape; value = v }
 
 -- the object at an address, as look and value show it
 pub record Holds (d : Objects) (a : Address) (o : Object) : Type 0 where
@@ -27,18 +21,7 @@ pub record Holds (d : Objects) (a : Address) (o : Object) : Type 0 where
 
 -- two addresses that differ are not both a third
 apart : (x y u v i s : ℕ) → (eqb u x && eqb v y) ≡ false → (eqb i x && eqb s y) ≡ true → (eqb i u && eqb s v) ≡ false
-apart x y u v i s n t =
-    let b = and_parts (eqb i x) (eqb s y) t in
-    let p : i ≡ x = eqb-true i x b.0 in
-    let q : s ≡ y = eqb-true s y b.1 in
-    ⊎_elim
-    (λ (h : (eqb i u && eqb s v) ≡ true).
-    let c = and_parts (eqb i u) (eqb s v) h in
-    let f : i ≡ u = eqb-true i u c.0 in
-    let g : s ≡ v = eqb-true s v c.1 in
-    absurd (both_ways _ n (and_from (eqb u x) (eqb v y) (eq-eqb u x (omega arith)) (eq-eqb v y (omega arith)))))
-    (λ h. h)
-    (cases_Bool (eqb i u && eqb s v))
+apart x y u v i s n t = grind (arith, nat_tests)
 
 cond_again : {X : Type 0} (b : Bool) (x y z : X) → cond b x y ≡ cond b x (cond b z y)
 cond_again true x y z = refl
@@ -46,7 +29,7 @@ cond_again false x y z = refl
 
 -- a choice that comes after another, where not both are taken
 cond_past : {X : Type 0} (b t : Bool) (x y z w : X) → (b ≡ true → t ≡ false) → w ≡ cond t y z → cond b x w ≡ cond t y (cond b x z)
-cond_past true true x y z w n e = absurd (both_ways true (n refl) refl)
+cond_past true true x y z w n e = cc (n refl)
 cond_past true false x y z w n e = refl
 cond_past false t x y z w n e = e
 
@@ -88,7 +71,7 @@ module _ {R : Type 0} (key : R → Key) (pool : ℕ) where
         (cases_Bool C)
 
     index_some : (i q : ℕ) (xs : List R) (k : ℕ) (r : R) → slice_get xs k ≡ Some r → (key r).counts (q + place_of key xs k) pool ≡ true → (key r).address.index ≡ i → has_index i (rows q xs) ≡ true
-    index_some i q [] k r s c e = clash (cc)
+    index_some i q [] k r s c e = cc
     index_some i q (x ∷ xs) zero r s c e =
         let same : x ≡ r = cc in
         let z : q + 0 ≡ q = omega arith in
@@ -127,7 +110,7 @@ module _ {R : Type 0} (key : R → Key) (pool : ℕ) where
     Hit q (r ∷ rs) (suc k) p = (matches r q ≡ false) × Hit (q + (key r).extent) rs k p
 
     hit_from : (q : ℕ) (xs : List R) (k : ℕ) (r : R) (p : ℕ) → p ≡ q + place_of key xs k → slice_get xs k ≡ Some r → (key r).counts p pool ≡ true → (key r).address ≡ a → Nowhere (λ y. (key y).address ≡ a) k q xs → Hit q xs k p
-    hit_from q [] k r p e s c m none = clash (cc)
+    hit_from q [] k r p e s c m none = cc
     hit_from q (x ∷ xs) zero r p e s c m none =
         let same : x ≡ r = cc in
         let z : p ≡ q = omega arith in
@@ -264,36 +247,39 @@ module _ {R : Type 0} (key : R → Key) (pool : ℕ) (object : R → ℕ → Obj
       inr (x.0, rw unknown))
       h.1
 
-  module _ (d : R) (f : Found) (h : Located key pool xs a f) where
+  module _ (f : Found) (h : Located key pool xs a f) where
+    -- the record that is meant
+    abbrev r : R
+    r = h.0
+
+    pub counted : (key r).counts f.place pool ≡ true
+    counted = ap (λ p. (key r).counts p pool) h.2 ∙ h.1.counts.counts
+
     hit : Hit key pool a 0 xs f.position f.place
     hit =
         let m = h.1 in
-        hit_from key pool a 0 xs f.position h.0 f.place (h.2 ∙ sym (from_start f.position)) m.counts.stands (ap (λ p. (key h.0).counts p pool) h.2 ∙ m.counts.counts) m.address
+        hit_from key pool a 0 xs f.position r f.place (h.2 ∙ sym (from_start f.position)) m.counts.stands counted m.address
         (nowhere (λ r. (key r).address ≡ a) f.position (λ k r l c. m.earlier k r l c))
 
     pub inside : f.position < length xs
-    inside =
-        ⊎_elim
-        (λ l. l)
-        (λ l. let e = slice_get_past xs f.position l in let s = h.1.counts.stands in clash (cc))
-        (cases_lt f.position (length xs))
+    inside = slice_get_within xs f.position r h.1.counts.stands
 
-    pub the_record : get_or xs f.position d ≡ h.0
-    the_record = let e = slice_get-get_or xs f.position d inside in let s = h.1.counts.stands in cc
+    pub the_record : (d : R) → get_or xs f.position d ≡ r
+    the_record d = get_or_from_slice_get xs f.position r d h.1.counts.stands
 
-    pub counted : (key (get_or xs f.position d)).counts f.place pool ≡ true
-    counted = ap₂ (λ r p. (key r).counts p pool) the_record h.2 ∙ h.1.counts.counts
+    known : has_index a.index (rows_from key pool object 0 xs) ≡ true
+    known = (met key pool a object r 0 xs f.position f.place hit).known
 
-    meets : Met key pool a object d 0 xs f.position f.place
-    meets = met key pool a object d 0 xs f.position f.place hit
+    first : first_at a.index a.subindex (rows_from key pool object 0 xs) ≡ Some (object r f.place)
+    first = (met key pool a object r 0 xs f.position f.place hit).first ∙ ap (λ x. Some (object x f.place)) (the_record r)
 
-    pub holds : Holds (objects xs) a (object (get_or xs f.position d) f.place)
-    holds = let k = meets.known in let e = meets.first in record { entry = rw (k, e); bytes = rw (k, e) }
+    pub holds : Holds (objects xs) a (object r f.place)
+    holds = record { entry = rw (known, first); bytes = rw (known, first) }
 
-    -- the record that is meant gets another value, and no other object changes
-    module _ (object' : R → ℕ → Object) (r' : R) (same : key r' ≡ key (get_or xs f.position d)) (bs : Bytes) (new : object' r' f.place ≡ revalued bs (object (get_or xs f.position d) f.place)) (away : (r : R) (q : ℕ) → (key r).counts q pool ≡ true → (q + (key r).extent ≤ f.place) ⊎ (f.place + (key (get_or xs f.position d)).extent ≤ q) → object' r q ≡ object r q) where
-      swap : (i s : ℕ) → Swapped key pool a object object' f.place (key (get_or xs f.position d)).extent away i s r' 0 xs f.position
-      swap i s = swapped key pool a object object' f.place (key (get_or xs f.position d)).extent away d i s r' 0 xs f.position hit same refl
+    -- it gets another value, and no other object changes
+    module _ (object' : R → ℕ → Object) (r' : R) (same : key r' ≡ key r) (bs : Bytes) (new : object' r' f.place ≡ revalued bs (object r f.place)) (away : (x : R) (q : ℕ) → (key x).counts q pool ≡ true → (q + (key x).extent ≤ f.place) ⊎ (f.place + (key r).extent ≤ q) → object' x q ≡ object x q) where
+      swap : (i s : ℕ) → Swapped key pool a object object' f.place (key r).extent away i s r' 0 xs f.position
+      swap i s = swapped key pool a object object' f.place (key r).extent away r i s r' 0 xs f.position hit (same ∙ ap key (sym (the_record r))) (ap (λ x. (key x).extent) (the_record r))
 
       abbrev old : List Row
       old = rows_from key pool object 0 xs
@@ -308,7 +294,7 @@ module _ {R : Type 0} (key : R → Key) (pool : ℕ) (object : R → ℕ → Obj
           ⊎_elim
           (λ (h : eqb s a.subindex ≡ true).
           let se : s ≡ a.subindex = eqb-true _ _ h in
-          ff ∙ cond-true _ _ _ h ∙ ap Some new ∙ sym (cond-true _ _ _ h ∙ ap (with_value bs) (ap (λ q. first_at a.index q old) se ∙ meets.first)))
+          ff ∙ cond-true _ _ _ h ∙ ap Some new ∙ sym (cond-true _ _ _ h ∙ ap (with_value bs) (ap (λ q. first_at a.index q old) se ∙ first)))
           (λ (h : eqb s a.subindex ≡ false). ff ∙ cond-false _ _ _ h ∙ sym (cond-false _ _ _ h))
           (cases_Bool (eqb s a.subindex))
 
@@ -323,7 +309,7 @@ module _ {R : Type 0} (key : R → Key) (pool : ℕ) (object : R → ℕ → Obj
           let P : ℕ → Type 0 = λ j. table fresh j ≡ put (objects xs) a bs j in
           let ai : eqb a.index a.index ≡ true = eq-eqb _ _ refl in
           let hs : (λ s. first_at a.index s fresh) ≡ (λ s. cond (eqb s a.subindex) (with_value bs (first_at a.index s old)) (first_at a.index s old)) = fun_ext at_index in
-          let q : P a.index = cond-true _ _ _ ((swap a.index 0).known ∙ meets.known) ∙ ap Some hs ∙ sym (cond-true _ _ _ ai ∙ ap (λ x. put_under x a.subindex bs) (cond-true _ _ _ meets.known)) in
+          let q : P a.index = cond-true _ _ _ ((swap a.index 0).known ∙ known) ∙ ap Some hs ∙ sym (cond-true _ _ _ ai ∙ ap (λ x. put_under x a.subindex bs) (cond-true _ _ _ known)) in
           subst P ie q)
           (λ (h : eqb i a.index ≡ false).
           let hs : (λ s. first_at i s fresh) ≡ (λ s. first_at i s old) = fun_ext (λ s. elsewhere i s h) in

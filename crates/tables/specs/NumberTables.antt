@@ -1,14 +1,12 @@
 -- What a table of number records means, and what a write leaves of its records.
 -- Assumes nothing.
-use Rattle.std.specs.Prelude.{◌≡◌, ℕ, zero, suc, ◌/◌, ◌%◌, Bool, ◌&&◌, ◌||◌, List, [], ◌∷◌, ℤ, pos, negsuc, Some, None, ◌==◌, int_le, slice_set}
+use Rattle.std.specs.Prelude.{ℕ, zero, suc, ◌/◌, ◌%◌, Bool, ◌&&◌, ◌||◌, List, [], ◌∷◌, ℤ, pos, negsuc, ◌==◌, int_le}
 use Rattle.dictionary.specs.declared.Address.{Address}
-use Rattle.dictionary.specs.declared.Fault.{Fault}
 use Rattle.dictionary.specs.declared.Look.{Look}
 use Rattle.dictionary.specs.declared.Shape.TheVariants.{Number}
-use Rattle.dictionary.specs.Objects.{Bytes, Object, Objects, look, unsigned_value}
-use Rattle.dictionary.specs.Checks.{write_fault}
+use Rattle.dictionary.specs.Objects.{Bytes, Object, Objects, unsigned_value}
 use Rattle.tables.specs.declared.numbers.NumberRecord.{NumberRecord}
-use Rattle.tables.specs.Tables.{Key, front, Meant, rows_from, table}
+use Rattle.tables.specs.Tables.{Key, objects_of, Written}
 
 -- so many low bytes of a number, the lowest first
 abbrev pub low_bytes : ℕ → ℕ → Bytes
@@ -39,15 +37,16 @@ number_look r = record { access = r.access; shape = Number r.width r.signed r.lo
 
 -- the numbers of the first 256 records that count
 abbrev pub number_objects : List NumberRecord → Objects
-number_objects rs = table (rows_from number_key 0 (λ r place. number_object r) 0 (front rs))
+number_objects rs = objects_of number_key (λ pool r place. number_object r) rs []
 
 abbrev pub with_number : ℕ → NumberRecord → NumberRecord
 with_number n r = record { address = r.address; width = r.width; signed = r.signed; access = r.access; low = r.low; high = r.high; value = n }
 
--- What a write of v at a leaves of the records.
-pub record NumberWritten (rs after : List NumberRecord) (a : Address) (v : Bytes) : Type 0 where
-  -- a refused write changes nothing
-  pub refused : (e : Fault) → write_fault (look (number_objects rs) a) v ≡ Some e → after ≡ rs
-  -- an accepted one changes the record that is meant: it holds the number of the bytes, so its bytes past the width are 0
-  pub accepted : write_fault (look (number_objects rs) a) v ≡ None
-      → (k : ℕ) × (r : NumberRecord) × Meant number_key 0 (front rs) a k r × (after ≡ slice_set rs k (with_number (unsigned_value v) r))
+-- with the number that the bytes stand for, so its bytes past the width are 0
+abbrev pub number_stored : Bytes → NumberRecord → NumberRecord
+number_stored v r = with_number (unsigned_value v) r
+
+-- What a write of v at a leaves of the records: a refused one changes nothing, an accepted one the record that is meant, which
+-- holds the number of the bytes. There is no pool.
+abbrev pub NumberWritten : List NumberRecord → List NumberRecord → Address → Bytes → Type 0
+NumberWritten rs after a v = Written number_key (λ pool r place. number_object r) number_stored (λ pool place w. pool) rs after [] [] a v

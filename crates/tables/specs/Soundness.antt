@@ -16,11 +16,8 @@ use Rattle.tables.specs.RunTables.{run_key, run_counts, run_object, run_objects}
 abbrev Allowed : Object → Type 0
 Allowed o = ShapeAllowed o.shape × LengthAllowed o.shape (length o.value)
 
-clash : {X : Type 0} → ◌≡◌ {A = ℕ} 0 1 → X
-clash z = absurd (omega (arith, z))
-
 shown : (x : Option Object) (access : Access) (shape : Shape) → entry_of x ≡ present access shape → ((o : Object) → x ≡ Some o → Allowed o) → ShapeAllowed shape × LengthAllowed shape (length (value_of x))
-shown None access shape e f = clash (cc)
+shown None access shape e f = cc
 shown (Some o) access shape e f =
     let same : o.shape ≡ shape = cc in
     let P : Shape → Type 0 = λ s. ShapeAllowed s × LengthAllowed s (length o.value) in
@@ -28,7 +25,7 @@ shown (Some o) access shape e f =
 
 -- an index that a row has is that of some address
 reached : (i : ℕ) (rows : List Row) → has_index i rows ≡ true → (s : ℕ) × (o : Object) × (first_at i s rows ≡ Some o)
-reached i [] e = clash (cc)
+reached i [] e = cc
 reached i (r ∷ rs) e =
     ⊎_elim
     (λ (h : nat_eq i r.address.index ≡ true).
@@ -44,7 +41,7 @@ reached i (r ∷ rs) e =
 
 module _ {R : Type 0} (key : R → Key) (pool : ℕ) (object : R → ℕ → Object) (each : (r : R) (place : ℕ) → (key r).counts place pool ≡ true → Allowed (object r place)) where
   first_allowed : (place : ℕ) (xs : List R) (i s : ℕ) (o : Object) → first_at i s (rows_from key pool object place xs) ≡ Some o → Allowed o
-  first_allowed place [] i s o e = clash (cc)
+  first_allowed place [] i s o e = cc
   first_allowed place (r ∷ rs) i s o e =
       let C = (key r).counts place pool in
       let H = i == (key r).address.index && nat_eq s (key r).address.subindex in
@@ -64,7 +61,7 @@ module _ {R : Type 0} (key : R → Key) (pool : ℕ) (object : R → ℕ → Obj
         allowed = λ a access shape e.
             ⊎_elim
             (λ (k : has_index a.index rows ≡ true). rw k (shown (first_at a.index a.subindex rows) access shape (rw k at e) (λ o h. first_allowed 0 xs a.index a.subindex o h)))
-            (λ (k : has_index a.index rows ≡ false). let z = rw k at e in clash (cc))
+            (λ (k : has_index a.index rows ≡ false). let z = rw k at e in cc)
             (cases_Bool (has_index a.index rows));
         addressed = λ i subs e.
             ⊎_elim
@@ -73,7 +70,7 @@ module _ {R : Type 0} (key : R → Key) (pool : ℕ) (object : R → ℕ → Obj
             let same : (λ s. first_at i s rows) ≡ subs = cc in
             let f = reached i rows k in
             (f.0, f.1, ap (λ (g : ℕ → Option Object). g f.0) (sym same) ∙ f.2))
-            (λ (k : has_index i rows ≡ false). let z = rw k at e in clash (cc))
+            (λ (k : has_index i rows ≡ false). let z = rw k at e in cc)
             (cases_Bool (has_index i rows));
       }
 

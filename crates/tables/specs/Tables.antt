@@ -1,11 +1,13 @@
 -- Tables of records that carry an address: which record is meant for an address, and what such a table means.
 -- Assumes nothing.
-use Rattle.std.specs.Prelude.{◌≡◌, ℕ, ◌+◌, ◌<◌, Bool, true, false, cond, ◌&&◌, ◌||◌, ◌⊎◌, List, [], ◌∷◌, take, Some, None, sum_by, Option, ◌==◌, ◌≢◌}
+use Rattle.std.specs.Prelude.{◌≡◌, ℕ, ◌+◌, ◌<◌, ◌≤◌, Bool, true, false, cond, ◌&&◌, ◌||◌, ◌⊎◌, List, [], ◌∷◌, length, take, Some, None, sum_by, Option, ◌==◌, ◌≢◌, slice_set}
 use Rattle.std.specs.List.{slice_get}
 use Rattle.dictionary.specs.declared.Address.{Address}
 use Rattle.dictionary.specs.declared.Fault.{Fault}
 use Rattle.dictionary.specs.declared.Fault.TheVariants.{NoIndex, NoSubindex}
-use Rattle.dictionary.specs.Objects.{Object, Objects}
+use Rattle.dictionary.specs.declared.Look.{Look}
+use Rattle.dictionary.specs.Objects.{Bytes, Object, Objects, ShapeAllowed, look}
+use Rattle.dictionary.specs.Checks.{write_fault}
 use Rattle.tables.specs.declared.search.Found.{Found}
 
 -- What a search asks of a record.
@@ -80,3 +82,33 @@ first_at i s (r ∷ rs) = cond (i == r.address.index && s == r.address.subindex)
 -- an index is known if a row has it
 abbrev pub table : List Row → Objects
 table rows i = cond (has_index i rows) (Some (λ s. first_at i s rows)) None
+
+-- the objects of the first 256 records that count, where each stands for an object by the pool and its place there
+abbrev pub objects_of : {R : Type 0} → (R → Key) → (Bytes → R → ℕ → Object) → List R → Bytes → Objects
+objects_of key object rs pool = table (rows_from key (length pool) (object pool) 0 (front rs))
+
+-- What is told of an object that a dictionary may have: its access, its shape, and the length of its value.
+pub record TellsOf (o : Object) (told : Look) : Type 0 where
+  pub so : told ≡ record { access = o.access; shape = o.shape; length = length o.value }
+  pub allowed : ShapeAllowed o.shape
+
+-- an object with another value
+abbrev pub revalued : Bytes → Object → Object
+revalued v o = record { access = o.access; shape = o.shape; value = v }
+
+-- Where a record r at a place stores the value v as r', and its pool as pool': it has its key still, its object has the value, and no
+-- object of a record that lies elsewhere changes.
+pub record Stores {R : Type 0} (key : R → Key) (object : Bytes → R → ℕ → Object) (pool : Bytes) (r : R) (place : ℕ) (v : Bytes) (r' : R) (pool' : Bytes) : Type 0 where
+  pub same : key r' ≡ key r
+  pub long : length pool' ≡ length pool
+  pub value : object pool' r' place ≡ revalued v (object pool r place)
+  pub elsewhere : (x : R) (q : ℕ) → (key x).counts q (length pool) ≡ true → (q + (key x).extent ≤ place) ⊎ (place + (key r).extent ≤ q) → object pool' x q ≡ object pool x q
+
+-- What a write of v at a leaves of the records and of the pool, where `stored` and `filled` say how a value is stored.
+pub record Written {R : Type 0} (key : R → Key) (object : Bytes → R → ℕ → Object) (stored : Bytes → R → R) (filled : Bytes → ℕ → Bytes → Bytes)
+    (rs after : List R) (pool pool-after : Bytes) (a : Address) (v : Bytes) : Type 0 where
+  -- a refused write changes nothing
+  pub refused : (e : Fault) → write_fault (look (objects_of key object rs pool) a) v ≡ Some e → (after ≡ rs) × (pool-after ≡ pool)
+  -- an accepted one changes the record that is meant, and the bytes of its value in the pool
+  pub accepted : write_fault (look (objects_of key object rs pool) a) v ≡ None
+      → (k : ℕ) × (r : R) × Meant key (length pool) (front rs) a k r × (after ≡ slice_set rs k (stored v r)) × (pool-after ≡ filled pool (place_of key (front rs) k) v)

@@ -4,6 +4,7 @@
 mod numbers;
 mod runs;
 mod search;
+mod table;
 mod values;
 
 pub use numbers::{NumberRecord, Numbers};

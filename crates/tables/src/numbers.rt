@@ -1,12 +1,13 @@
 // A dictionary of numbers: a table of records that is changed in place.
-ghost use Rattle.std.specs.Prelude.{◌≡◌, true, ◌⊎◌, length};
-ghost use Rattle.dictionary.specs.Calls.{read_of, memory_of, write_answer, after_write};
-ghost use Rattle.dictionary.specs.Objects.{present, unsigned_value};
-ghost use Rattle.tables.specs.NumberTables.{is_width_lem, in_limits_lem, number_counts, number_key, number_look, number_object, number_objects, with_number, NumberWritten};
+ghost use Rattle.std.specs.Prelude.{◌≡◌};
+ghost use Rattle.dictionary.specs.Calls.{write_answer, after_write};
+ghost use Rattle.tables.specs.NumberTables.{is_width_lem, in_limits_lem, number_key, number_look, number_object, number_objects, number_stored, NumberWritten};
 ghost use Rattle.tables.specs.Soundness.{number_sound};
+ghost use Rattle.tables.specs.Storing.{number_tells, number_stores};
 
-use crate::search::{Addressed, find};
-use crate::values::{admit, copy_out, unsigned};
+use crate::search::Addressed;
+use crate::table::{Record, look, read, write};
+use crate::values::{copy_out, unsigned};
 use dictionary::{Access, Address, Dictionary, Fault, Look, Shape};
 
 const LOWEST: i64 = -0x8000_0000;
@@ -14,7 +15,7 @@ const LOWEST: i64 = -0x8000_0000;
 const HIGHEST: i64 = 0xffff_ffff;
 
 // It counts if its width is 1, 2 or 4 and low and high lie from −2^31 to 2^32 − 1.
-#[derive(Clone, Copy)]
+#[derive(Clone, Copy, PartialEq, Eq, Debug)]
 pub struct NumberRecord {
     pub address: Address,
     pub width: u8,
@@ -45,19 +46,29 @@ impl Addressed for NumberRecord {
 fn is_width(width: u8) -> bool
     ensures { result ≡ is_width_lem width }
 {
-    width == 1 || width == 2 || width == 4
+    matches!(width, 1 | 2 | 4)
 }
 
 fn in_limits(bound: i64) -> bool
     ensures { result ≡ in_limits_lem bound }
 {
-    LOWEST <= bound && bound <= HIGHEST
+    (LOWEST..=HIGHEST).contains(&bound)
 }
 
-impl NumberRecord {
-    fn look(&self) -> Look
-        ensures { result ≡ number_look self.now }
-    {
+impl Record for NumberRecord {
+    ghost object = { λ pool r place. number_object r };
+
+    ghost told = { number_look };
+
+    ghost stored = { number_stored };
+
+    ghost filled = { λ pool place v. pool };
+
+    ghost tells = { λ pool r place. number_tells r };
+
+    ghost stores = { number_stores };
+
+    fn look(&self) -> Look {
         Look {
             access: self.access,
             shape: Shape::Number {
@@ -70,39 +81,19 @@ impl NumberRecord {
         }
     }
 
-    fn read(&self, memory: &mut [u8]) -> Result<usize, Fault>
-        requires { number_counts self.now ≡ true }
-        ensures answer { result ≡ read_of (present self.now.access (number_object self.now).shape) (number_object self.now).value memory.old }
-        ensures memory { memory.new ≡ memory_of (present self.now.access (number_object self.now).shape) (number_object self.now).value memory.old }
-    {
+    fn read(&self, place: usize, pool: &[u8], memory: &mut [u8]) -> Result<usize, Fault> {
         let bytes = self.value.to_le_bytes();
         let width = self.width as usize;
-        copy_out(self.look(), &bytes[0..width], memory)
+        copy_out(self.look(), &bytes[..width], memory)
     }
 
-    // Takes the number of these bytes; the bytes of the value past them are cleared.
-    fn store(&mut self, bytes: &[u8])
-        requires { (length bytes.now ≡ 1) ⊎ ((length bytes.now ≡ 2) ⊎ (length bytes.now ≡ 4)) }
-        ensures { self.new ≡ with_number (unsigned_value bytes.now) self.old }
-    {
+    // The bytes of the value past the width are cleared.
+    fn store(&mut self, place: usize, pool: &mut [u8], bytes: &[u8]) {
         self.value = unsigned(bytes);
     }
 }
 
-// The value of the record at an address, written in place.
-fn write_number(records: &mut [NumberRecord], at: Address, bytes: &[u8]) -> Result<(), Fault>
-    ensures answer { result ≡ write_answer (number_objects records.old) at bytes.now }
-    ensures after { number_objects records.new ≡ after_write (number_objects records.old) at bytes.now }
-    ensures records { NumberWritten records.old records.new at bytes.now }
-{
-    let found = find(records, at, 0)?;
-    let record = records[found.position];
-    admit(record.look(), bytes)?;
-    records[found.position].store(bytes);
-    Ok(())
-}
-
-// The dictionary of the first 256 records that count.
+// The dictionary of the first 256 records that count. No one struct with `Runs`: numbers have no pool, and the trait of both would be public.
 #[derive(Drop)]
 pub struct Numbers<'a> {
     records: &'a mut [NumberRecord],
@@ -122,15 +113,11 @@ impl Dictionary for Numbers<'_> {
     ghost sound = { λ n. number_sound n.records.now };
 
     fn look(&self, at: Address) -> Result<Look, Fault> {
-        let found = find(self.records, at, 0)?;
-        let record = self.records[found.position];
-        Ok(record.look())
+        look(self.records, &[], at)
     }
 
     fn read(&self, at: Address, memory: &mut [u8]) -> Result<usize, Fault> {
-        let found = find(self.records, at, 0)?;
-        let record = self.records[found.position];
-        record.read(memory)
+        read(self.records, &[], at, memory)
     }
 
     fn write(&mut self, at: Address, bytes: &[u8]) -> Result<(), Fault>
@@ -138,6 +125,6 @@ impl Dictionary for Numbers<'_> {
         ensures after { number_objects self.new.records.now ≡ after_write (number_objects self.old.records.now) at bytes.now }
         ensures records { NumberWritten self.old.records.now self.new.records.now at bytes.now }
     {
-        write_number(self.records, at, bytes)
+        write(self.records, &mut [], at, bytes)
     }
 }

@@ -1,10 +1,9 @@
-use Rattle.std.proofs.Common.{refl}
+use Rattle.std.proofs.Common.{sym, ◌∙◌}
 use Rattle.layers.specs.Axes.{axis_number}
-use Rattle.layers.proofs.LayerLaws.{by_below}
+use Rattle.layers.proofs.LayerLaws.{after_below}
 use Rattle.layers.proofs.shift.ShiftDictionary.write.Goals as goal
 
-pub returns-in-Some : goal.returns-in-Some
-returns-in-Some g c =
+pub returns-clause-after : goal.returns-clause-after
+returns-clause-after g c =
     let s = c.args.self.now in
-    let w = by_below (axis_number s.axis) (g.D.Dictionary.meaning s.below) c.args.at c.in-Some.at c.args.bytes.now c.in-Some.ensures _ _ c.write.ensures.answer c.write.ensures.after in
-    record { answer = w.answer; after = w.after; axis = refl; below = w.below }
+    after_below (axis_number s.axis) (g.D.Dictionary.meaning s.below) (g.D.Dictionary.meaning c.write.new.self) c.args.at c.in_ok-at.at c.args.bytes.now (sym c.unshift.ensures ∙ c.in_ok-at.was) c.write.ensures.after
