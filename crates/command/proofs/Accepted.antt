@@ -1,7 +1,6 @@
 -- A frame is accepted exactly where the words hold: each check that does not apply gives one of them.
 use Rattle.std.proofs.Common.{◌≡◌, ℕ, ◌+◌, Bool, true, false, ◌&&◌, ltb, ◌++◌, length, None, refl, arith}
 use Rattle.std.proofs.lemmas.Bool.{ltb-false, le-ltb}
-use Rattle.dictionary.specs.declared.Address.{Address}
 use Rattle.dictionary.specs.declared.Shape.TheVariants.{Number, Run}
 use Rattle.dictionary.specs.Objects.{Bytes, Objects, Entry, no_index, no_subindex, present, look, MayBeRead}
 use Rattle.dictionary.specs.Checks.{is_run}
@@ -12,7 +11,7 @@ use Rattle.command.specs.Frames.{verb, len, node_of, address, payload, declared,
 use Rattle.command.specs.Checks.{Check, OpCode, Len, Node, NoChain, Toggle, NAgainstLen, SumOver, LastShort, Index, Subindex, ReadOfWo, WriteOfRo, OnRun, OverLength, UnderLength, OverHigh, UnderLow}
 use Rattle.command.specs.Checks.{OpenChain, closed, reading, writing, checks, first, fault, low_bytes}
 use Rattle.command.specs.Accepted.{OfNumber, NextRead, NextWrite, Passes, Accepted}
-use Rattle.command.proofs.Tables.{clear, clear_back, on_last, off, eq_from, eq_back, between_from, between_back, number_from, number_back}
+use Rattle.command.proofs.Tables.{clear, clear_back, in_rows, on_last, off, eq_from, eq_back, between_from, between_back, number_from, number_back}
 
 -- an entry that may be read and is no run is a number
 number_of : (e : Entry) → MayBeRead e → is_run e ≡ false → OfNumber e
@@ -73,131 +72,56 @@ module _ (node : ℕ) (d : Objects) (f : Frame) where
 
   -- and what makes no check apply
 
-  read_back : (c : OpenChain) → Passes read_object node d c f → (k : Check) → checks read_object node d c f k ≡ false
-  read_back c p OpCode = refl
-  read_back c p Len = eq_back (len f) 2 p.0
-  read_back c p Node = eq_back (node_of f) node p.1
-  read_back c p NoChain = refl
-  read_back c p Toggle = refl
-  read_back c p NAgainstLen = refl
-  read_back c p SumOver = refl
-  read_back c p LastShort = refl
-  read_back c p Index = (reads_back here p.2).0
-  read_back c p Subindex = (reads_back here p.2).1
-  read_back c p ReadOfWo = (reads_back here p.2).2
-  read_back c p WriteOfRo = refl
-  read_back c p OnRun = (number_back here (payload f) p.3.0 p.3.1).1
-  read_back c p OverLength = refl
-  read_back c p UnderLength = refl
-  read_back c p OverHigh = refl
-  read_back c p UnderLow = refl
-
-  initiate_read_back : (c : OpenChain) → Passes initiate_read node d c f → (k : Check) → checks initiate_read node d c f k ≡ false
-  initiate_read_back c p OpCode = refl
-  initiate_read_back c p Len = eq_back (len f) 2 p.0
-  initiate_read_back c p Node = eq_back (node_of f) node p.1
-  initiate_read_back c p NoChain = refl
-  initiate_read_back c p Toggle = refl
-  initiate_read_back c p NAgainstLen = refl
-  initiate_read_back c p SumOver = refl
-  initiate_read_back c p LastShort = refl
-  initiate_read_back c p Index = (reads_back here p.2).0
-  initiate_read_back c p Subindex = (reads_back here p.2).1
-  initiate_read_back c p ReadOfWo = (reads_back here p.2).2
-  initiate_read_back c p WriteOfRo = refl
-  initiate_read_back c p OnRun = refl
-  initiate_read_back c p OverLength = refl
-  initiate_read_back c p UnderLength = refl
-  initiate_read_back c p OverHigh = refl
-  initiate_read_back c p UnderLow = refl
-
-  write_back : (c : OpenChain) → Passes write_object node d c f → (k : Check) → checks write_object node d c f k ≡ false
-  write_back c p OpCode = refl
-  write_back c p Len = eq_back (len f) 4 p.0
-  write_back c p Node = eq_back (node_of f) node p.1
-  write_back c p NoChain = refl
-  write_back c p Toggle = refl
-  write_back c p NAgainstLen = refl
-  write_back c p SumOver = refl
-  write_back c p LastShort = refl
-  write_back c p Index = (admits_back here low p.3).0.0
-  write_back c p Subindex = (admits_back here low p.3).0.1
-  write_back c p ReadOfWo = refl
-  write_back c p WriteOfRo = (admits_back here low p.3).0.2
-  write_back c p OnRun = (number_back here (payload f) p.2.0 p.2.1).1
-  write_back c p OverLength = (admits_back here low p.3).1.0
-  write_back c p UnderLength = (admits_back here low p.3).1.1
-  write_back c p OverHigh = (admits_back here low p.3).2.0
-  write_back c p UnderLow = (admits_back here low p.3).2.1
-
-  initiate_write_back : (c : OpenChain) → Passes initiate_write node d c f → (k : Check) → checks initiate_write node d c f k ≡ false
-  initiate_write_back c p OpCode = refl
-  initiate_write_back c p Len = eq_back (len f) 4 p.0
-  initiate_write_back c p Node = eq_back (node_of f) node p.1
-  initiate_write_back c p NoChain = refl
-  initiate_write_back c p Toggle = refl
-  initiate_write_back c p NAgainstLen = refl
-  initiate_write_back c p SumOver = refl
-  initiate_write_back c p LastShort = refl
-  initiate_write_back c p Index = (takes_back here (declared f) p.2).0.0
-  initiate_write_back c p Subindex = (takes_back here (declared f) p.2).0.1
-  initiate_write_back c p ReadOfWo = refl
-  initiate_write_back c p WriteOfRo = (takes_back here (declared f) p.2).0.2
-  initiate_write_back c p OnRun = refl
-  initiate_write_back c p OverLength = (takes_back here (declared f) p.2).1.0
-  initiate_write_back c p UnderLength = (takes_back here (declared f) p.2).1.1
-  initiate_write_back c p OverHigh = refl
-  initiate_write_back c p UnderLow = refl
-
-  next_read_back : (v : Bytes) (sent t : ℕ) → Passes segment_read node d (reading v sent t) f → (k : Check) → checks segment_read node d (reading v sent t) f k ≡ false
-  next_read_back v sent t p OpCode = refl
-  next_read_back v sent t p Len = eq_back (len f) 1 p.0
-  next_read_back v sent t p Node = refl
-  next_read_back v sent t p NoChain = refl
-  next_read_back v sent t p Toggle = eq_back (read_toggle f) t p.1
-  next_read_back v sent t p NAgainstLen = refl
-  next_read_back v sent t p SumOver = refl
-  next_read_back v sent t p LastShort = refl
-  next_read_back v sent t p Index = refl
-  next_read_back v sent t p Subindex = refl
-  next_read_back v sent t p ReadOfWo = refl
-  next_read_back v sent t p WriteOfRo = refl
-  next_read_back v sent t p OnRun = refl
-  next_read_back v sent t p OverLength = refl
-  next_read_back v sent t p UnderLength = refl
-  next_read_back v sent t p OverHigh = refl
-  next_read_back v sent t p UnderLow = refl
-
-  next_write_back : (a : Address) (n : ℕ) (bytes : Bytes) (t : ℕ) → Passes segment_write node d (writing a n bytes t) f → (k : Check) → checks segment_write node d (writing a n bytes t) f k ≡ false
-  next_write_back a n bytes t p OpCode = refl
-  next_write_back a n bytes t p Len = between_back 1 (len f) p.0
-  next_write_back a n bytes t p Node = refl
-  next_write_back a n bytes t p NoChain = refl
-  next_write_back a n bytes t p Toggle = eq_back (write_toggle f) t p.1.0
-  next_write_back a n bytes t p NAgainstLen = eq_back (len f) (room (size f)) p.1.1
-  next_write_back a n bytes t p SumOver = le-ltb n (length bytes + size f) p.1.2
-  next_write_back a n bytes t p LastShort = if_marked (marked f) _ (λ m. le-ltb (length bytes + size f) n (omega (arith, (p.1.3 m).0)))
-  next_write_back a n bytes t p Index = if_marked (marked f) _ (λ m. (admits_back (look d a) (bytes ++ part f) (p.1.3 m).1).0.0)
-  next_write_back a n bytes t p Subindex = if_marked (marked f) _ (λ m. (admits_back (look d a) (bytes ++ part f) (p.1.3 m).1).0.1)
-  next_write_back a n bytes t p ReadOfWo = refl
-  next_write_back a n bytes t p WriteOfRo = if_marked (marked f) _ (λ m. (admits_back (look d a) (bytes ++ part f) (p.1.3 m).1).0.2)
-  next_write_back a n bytes t p OnRun = refl
-  next_write_back a n bytes t p OverLength = if_marked (marked f) _ (λ m. (admits_back (look d a) (bytes ++ part f) (p.1.3 m).1).1.0)
-  next_write_back a n bytes t p UnderLength = if_marked (marked f) _ (λ m. (admits_back (look d a) (bytes ++ part f) (p.1.3 m).1).1.1)
-  next_write_back a n bytes t p OverHigh = if_marked (marked f) _ (λ m. (admits_back (look d a) (bytes ++ part f) (p.1.3 m).1).2.0)
-  next_write_back a n bytes t p UnderLow = if_marked (marked f) _ (λ m. (admits_back (look d a) (bytes ++ part f) (p.1.3 m).1).2.1)
-
   pass_back : (w : Verb) (c : OpenChain) → Passes w node d c f → (k : Check) → checks w node d c f k ≡ false
-  pass_back read_object c p = read_back c p
-  pass_back initiate_read c p = initiate_read_back c p
-  pass_back write_object c p = write_back c p
-  pass_back initiate_write c p = initiate_write_back c p
+  pass_back read_object c p =
+      in_rows (checks read_object node d c f)
+      (refl, eq_back (len f) 2 p.0, eq_back (node_of f) node p.1)
+      (refl, refl, refl, refl, refl)
+      (let r = reads_back here p.2 in (r.0, r.1, r.2, refl))
+      ((number_back here (payload f) p.3.0 p.3.1).1, refl, refl)
+      (refl, refl)
+  pass_back initiate_read c p =
+      in_rows (checks initiate_read node d c f)
+      (refl, eq_back (len f) 2 p.0, eq_back (node_of f) node p.1)
+      (refl, refl, refl, refl, refl)
+      (let r = reads_back here p.2 in (r.0, r.1, r.2, refl))
+      (refl, refl, refl)
+      (refl, refl)
+  pass_back write_object c p =
+      let t = admits_back here low p.3 in
+      in_rows (checks write_object node d c f)
+      (refl, eq_back (len f) 4 p.0, eq_back (node_of f) node p.1)
+      (refl, refl, refl, refl, refl)
+      (t.0.0, t.0.1, refl, t.0.2)
+      ((number_back here (payload f) p.2.0 p.2.1).1, t.1.0, t.1.1)
+      t.2
+  pass_back initiate_write c p =
+      let t = takes_back here (declared f) p.2 in
+      in_rows (checks initiate_write node d c f)
+      (refl, eq_back (len f) 4 p.0, eq_back (node_of f) node p.1)
+      (refl, refl, refl, refl, refl)
+      (t.0.0, t.0.1, refl, t.0.2)
+      (refl, t.1.0, t.1.1)
+      (refl, refl)
   pass_back segment_read closed p = absurd p.1
-  pass_back segment_read (reading v sent t) p = next_read_back v sent t p
+  pass_back segment_read (reading v sent t) p =
+      in_rows (checks segment_read node d (reading v sent t) f)
+      (refl, eq_back (len f) 1 p.0, refl)
+      (refl, eq_back (read_toggle f) t p.1, refl, refl, refl)
+      (refl, refl, refl, refl)
+      (refl, refl, refl)
+      (refl, refl)
   pass_back segment_read (writing a n bytes t) p = absurd p.1
   pass_back segment_write closed p = absurd p.1
   pass_back segment_write (reading v sent t) p = absurd p.1
-  pass_back segment_write (writing a n bytes t) p = next_write_back a n bytes t p
+  pass_back segment_write (writing a n bytes t) p =
+      let last = λ (m : marked f ≡ true). admits_back (look d a) (bytes ++ part f) (p.1.3 m).1 in
+      in_rows (checks segment_write node d (writing a n bytes t) f)
+      (refl, between_back 1 (len f) p.0, refl)
+      (refl, eq_back (write_toggle f) t p.1.0, eq_back (len f) (room (size f)) p.1.1, le-ltb n (length bytes + size f) p.1.2, if_marked (marked f) _ (λ m. le-ltb (length bytes + size f) n (omega (arith, (p.1.3 m).0))))
+      (if_marked (marked f) _ (λ m. (last m).0.0), if_marked (marked f) _ (λ m. (last m).0.1), refl, if_marked (marked f) _ (λ m. (last m).0.2))
+      (refl, if_marked (marked f) _ (λ m. (last m).1.0), if_marked (marked f) _ (λ m. (last m).1.1))
+      (if_marked (marked f) _ (λ m. (last m).2.0), if_marked (marked f) _ (λ m. (last m).2.1))
   pass_back unknown c p = absurd p
 
   pub passed : (w : Verb) (c : OpenChain) → first (checks w node d c f) ≡ None → Passes w node d c f

@@ -1,10 +1,8 @@
 pub mod Tables
 pub mod Accepted
-pub mod Numbers
-pub mod Decoding
+pub mod Names
 pub mod Rows
 pub mod Padding
 pub mod Fitting
 pub mod Neighbours
-pub mod Cases
 pub mod Reading

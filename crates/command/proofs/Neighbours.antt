@@ -21,39 +21,12 @@ holds_or p true j k r q h later = let same : k ≡ j = cc in ap p same ∙ q
 holds_or p false j k r q h later = later h
 
 holds : (p : Check → Bool) (ks : List Check) (k : Check) → first_of p ks ≡ Some k → p k ≡ true
-holds p [] k e = let z : ◌≡◌ {A = ℕ} 0 1 = cc in absurd (omega arith)
+holds p [] k e = cc
 holds p (j ∷ ks) k e = holds_or p (p j) j k (first_of p ks) refl e (holds p ks k)
 
 passed_over : (b : Bool) (j k : Check) (r : Option Check) → (j ≡ k → ⊥) → cond b (Some j) r ≡ Some k → (b ≡ false) × (r ≡ Some k)
 passed_over true j k r n e = absurd (n (cc))
 passed_over false j k r n e = (refl, e)
-
-differ : ◌≡◌ {A = ℕ} 0 1 → ⊥
-differ z = omega arith
-
-not_op_code : OpCode ≡ UnderLength → ⊥
-not_op_code z = differ (cc)
-
-not_len : Len ≡ UnderLength → ⊥
-not_len z = differ (cc)
-
-not_node : Node ≡ UnderLength → ⊥
-not_node z = differ (cc)
-
-not_no_chain : NoChain ≡ UnderLength → ⊥
-not_no_chain z = differ (cc)
-
-not_toggle : Toggle ≡ UnderLength → ⊥
-not_toggle z = differ (cc)
-
-not_n_against_len : NAgainstLen ≡ UnderLength → ⊥
-not_n_against_len z = differ (cc)
-
-not_sum_over : SumOver ≡ UnderLength → ⊥
-not_sum_over z = differ (cc)
-
-not_last_short : LastShort ≡ UnderLength → ⊥
-not_last_short z = differ (cc)
 
 and_right : (m b : Bool) → b ≡ false → m && b ≡ false
 and_right true b e = e
@@ -193,14 +166,14 @@ module _ (node : ℕ) (d : Objects) (c : OpenChain) (f : Frame) where
   before_length : fault node d c f ≡ Some UnderLength → BeforeLength
   unfolding fault first
   before_length e =
-      let opcode = passed_over _ OpCode UnderLength _ not_op_code e in
-      let length = passed_over _ Len UnderLength _ not_len opcode.1 in
-      let own = passed_over _ Node UnderLength _ not_node length.1 in
-      let chain = passed_over _ NoChain UnderLength _ not_no_chain own.1 in
-      let turn = passed_over _ Toggle UnderLength _ not_toggle chain.1 in
-      let n = passed_over _ NAgainstLen UnderLength _ not_n_against_len turn.1 in
-      let sum = passed_over _ SumOver UnderLength _ not_sum_over n.1 in
-      let last = passed_over _ LastShort UnderLength _ not_last_short sum.1 in
+      let opcode = passed_over _ OpCode UnderLength _ (λ z. cc) e in
+      let length = passed_over _ Len UnderLength _ (λ z. cc) opcode.1 in
+      let own = passed_over _ Node UnderLength _ (λ z. cc) length.1 in
+      let chain = passed_over _ NoChain UnderLength _ (λ z. cc) own.1 in
+      let turn = passed_over _ Toggle UnderLength _ (λ z. cc) chain.1 in
+      let n = passed_over _ NAgainstLen UnderLength _ (λ z. cc) turn.1 in
+      let sum = passed_over _ SumOver UnderLength _ (λ z. cc) n.1 in
+      let last = passed_over _ LastShort UnderLength _ (λ z. cc) sum.1 in
       record { len_passed = length.0; chain_passed = chain.0; n_passed = n.0; sum_passed = sum.0; last_passed = last.0 }
 
   payload_length : len f ≡ 4 → length (payload f) ≡ 4

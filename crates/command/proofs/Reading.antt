@@ -1,5 +1,5 @@
 -- What is read of a checked body is read of its bytes: the check can be computed.
-use Rattle.std.proofs.Common.{◌≡◌, ℕ, List, Ok, Err, Result, subst}
+use Rattle.std.proofs.Common.{◌≡◌, ℕ, List, Result, subst}
 use Rattle.wire.specs.declared.checked.Frame as code
 use Rattle.wire.specs.declared.faults.Fault as wire
 use Rattle.wire.specs.Checking.{Checks, shown, checked_frame}

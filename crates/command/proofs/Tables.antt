@@ -1,5 +1,5 @@
 -- No check of the table turns a frame away exactly where each alone does not.
-use Rattle.std.proofs.Common.{◌≡◌, ℕ, ◌≤◌, Bool, true, false, cond, not, ◌&&◌, eqb, leb, List, [], ◌∷◌, take, Some, None, Option, sym, refl, ap, ◌∙◌, arith}
+use Rattle.std.proofs.Common.{◌≡◌, ℕ, ◌≤◌, Bool, true, false, cond, not, ◌&&◌, eqb, leb, List, [], ◌∷◌, take, Some, None, Option, sym, refl, ap, ◌∙◌}
 use Rattle.std.proofs.lemmas.Bool.{true≢false, not-false, eqb-true, eq-eqb, leb-true, le-leb, and_parts}
 use Rattle.dictionary.specs.declared.Shape.TheVariants.{Number, Run}
 use Rattle.dictionary.specs.Objects.{Bytes, Entry, no_index, no_subindex, present, Admits, IsNumber}
@@ -13,7 +13,7 @@ Clear p [] = Unit {0}
 Clear p (k ∷ ks) = (p k ≡ false) × Clear p ks
 
 clear_first : (b : Bool) (k : Check) (r : Option Check) → cond b (Some k) r ≡ None → (b ≡ false) × (r ≡ None)
-clear_first true k r e = let z : ◌≡◌ {A = ℕ} 0 1 = cc in absurd (omega arith)
+clear_first true k r e = cc
 clear_first false k r e = (refl, e)
 
 clear_of : (p : Check → Bool) (ks : List Check) → first_of p ks ≡ None → Clear p ks
@@ -44,6 +44,30 @@ listed p h UnderLow = h.1.1.1.1.1.1.1.1.1.1.1.1.1.1.1.1.0
 pub clear : (p : Check → Bool) → first p ≡ None → (k : Check) → p k ≡ false
 unfolding first
 clear p e = listed p (clear_of p in_order e)
+
+-- a check by its place in its row
+pub in_rows : (p : Check → Bool) → (p OpCode ≡ false) × (p Len ≡ false) × (p Node ≡ false)
+    → (p NoChain ≡ false) × (p Toggle ≡ false) × (p NAgainstLen ≡ false) × (p SumOver ≡ false) × (p LastShort ≡ false)
+    → (p Index ≡ false) × (p Subindex ≡ false) × (p ReadOfWo ≡ false) × (p WriteOfRo ≡ false)
+    → (p OnRun ≡ false) × (p OverLength ≡ false) × (p UnderLength ≡ false)
+    → (p OverHigh ≡ false) × (p UnderLow ≡ false) → (k : Check) → p k ≡ false
+in_rows p command segment object shape value OpCode = command.0
+in_rows p command segment object shape value Len = command.1
+in_rows p command segment object shape value Node = command.2
+in_rows p command segment object shape value NoChain = segment.0
+in_rows p command segment object shape value Toggle = segment.1
+in_rows p command segment object shape value NAgainstLen = segment.2
+in_rows p command segment object shape value SumOver = segment.3
+in_rows p command segment object shape value LastShort = segment.4
+in_rows p command segment object shape value Index = object.0
+in_rows p command segment object shape value Subindex = object.1
+in_rows p command segment object shape value ReadOfWo = object.2
+in_rows p command segment object shape value WriteOfRo = object.3
+in_rows p command segment object shape value OnRun = shape.0
+in_rows p command segment object shape value OverLength = shape.1
+in_rows p command segment object shape value UnderLength = shape.2
+in_rows p command segment object shape value OverHigh = value.0
+in_rows p command segment object shape value UnderLow = value.1
 
 back_of : (p : Check → Bool) (ks : List Check) → ((k : Check) → p k ≡ false) → first_of p ks ≡ None
 back_of p [] h = refl

@@ -1,12 +1,11 @@
 -- How the data of an answer are laid out: the code, then what the command brings back, padded to whole words.
 -- Assumes nothing.
-use Rattle.std.specs.Prelude.{ℕ, ◌+◌, ◌-◌, ◌/◌, ◌%◌, min, Bool, true, false, cond, [], ◌∷◌, ◌++◌, length, take, drop, replicate, Ok, Err, Result, nat_le}
+use Rattle.std.specs.Prelude.{ℕ, ◌+◌, ◌-◌, ◌/◌, ◌%◌, min, Bool, true, false, cond, [], ◌∷◌, ◌++◌, length, take, drop, replicate, Result, nat_le}
 use Rattle.dictionary.specs.declared.Address.{Address}
 use Rattle.dictionary.specs.declared.Fault as dictionary
 use Rattle.dictionary.specs.Calls.{answer}
 use Rattle.dictionary.specs.Checks.{read_fault}
 use Rattle.dictionary.specs.Objects.{Bytes, Objects, look, value}
-use Rattle.command.specs.declared.answers.Answer.{Answer}
 use Rattle.command.specs.declared.faults.Fault.{Fault}
 use Rattle.command.specs.Faults.{code_of}
 
@@ -63,14 +62,6 @@ segment_back v sent t = min most (length v - sent) ∷ (answer_control v sent t 
 abbrev pub taken_back : ℕ → ℕ → Bytes
 taken_back n t = n ∷ (t ∷ [])
 
--- the data that an answer holds
-abbrev pub answer_data : Answer → Bytes
-answer_data a = take a.len a.bytes
-
 -- what a read of an object into the four bytes behind the code gives: the data of the answer, or the fault of the read
 abbrev pub value_answer : Objects → Address → Result Bytes dictionary.Fault
 value_answer d a = answer (read_fault (look d a) (value d a) 4) (accepted_data (value_back (value d a)))
-
-abbrev pub shown : Result Answer dictionary.Fault → Result Bytes dictionary.Fault
-shown (Ok a) = Ok (answer_data a)
-shown (Err e) = Err e

@@ -1,6 +1,6 @@
 -- What a checked frame is read as: one of six commands with its own fields, or the first check of the command row that turns it away.
 -- Assumes nothing.
-use Rattle.std.specs.Prelude.{◌≡◌, ℕ, cond, drop, Some, None, Ok, Err, Option, Result, ◌==◌}
+use Rattle.std.specs.Prelude.{◌≡◌, ℕ, cond, take, drop, Some, None, Ok, Err, Option, Result, ◌==◌}
 use Rattle.std.specs.Borrow.{Bor}
 use Rattle.dictionary.specs.declared.Address.{Address}
 use Rattle.dictionary.specs.Objects.{Bytes}
@@ -57,7 +57,7 @@ Reads node (Ok f) (Err e) = found (command_check node f) ≡ Some e
 Reads node (Err fault) (Ok c) = ⊥
 Reads node (Err fault) (Err e) = e ≡ OfWire fault
 
--- the address in front of the data, and the data behind it, of a frame that passes the command row
-abbrev pub Opens : ℕ → Frame → Result (Address × Bor Bytes) CommandFault → Type 0
-Opens node f (Ok p) = (command_check node f ≡ None) × (p.0 ≡ address f) × (p.1.now ≡ drop 4 f.content)
-Opens node f (Err e) = found (command_check node f) ≡ Some (OfCommand e)
+-- the address in front of the data, and the n data bytes behind it, of a frame that passes the command row
+abbrev pub Opens : ℕ → ℕ → Frame → Result (Address × Bor Bytes) CommandFault → Type 0
+Opens n node f (Ok p) = (command_check node f ≡ None) × (p.0 ≡ address f) × (p.1.now ≡ take n (drop 4 f.content))
+Opens n node f (Err e) = found (command_check node f) ≡ Some (OfCommand e)

@@ -1,5 +1,6 @@
 pub mod Faults
 pub mod Frames
+pub mod OpCodes
 pub mod Checks
 pub mod Answers
 pub mod Commands

@@ -2,23 +2,24 @@
 ghost use Rattle.std.specs.Prelude.{◌≡◌, ℕ, ◌+◌, ◌*◌, ◌/◌, ◌%◌, ◌≤◌, true, length, take, if◌then◌else◌, Some, None, ◌==◌, nat_eq};
 ghost use Rattle.command.specs.Answers.{four};
 ghost use Rattle.command.specs.Checks.{Node, concerns};
-ghost use Rattle.command.specs.Decoding.{Decodes, Opens, Reads, frame_of, part_values};
-ghost use Rattle.command.specs.Frames.{segment_read, segment_write, verb, room, len_fits, LenFits};
+ghost use Rattle.command.specs.Decoding.{Decodes, Is, Opens, Reads, frame_of, part_values};
+ghost use Rattle.command.specs.Frames.{segment_write, verb, len, room, len_fits};
 ghost use Rattle.dictionary.specs.Objects.{unsigned_value};
 ghost use Rattle.wire.specs.Checking.{checked_frame};
 
 use crate::faults::{CommandFault, Fault};
+use crate::opcodes::OpCode;
 use dictionary::Address;
 use wire::{Body, Frame};
 
 // The n bytes of a segment, as a part of the frame memory, with their place there.
-#[derive(Clone, Copy)]
+#[derive(Clone, Copy, Debug, PartialEq, Eq)]
 pub struct Part<'a> {
     pub place: usize,
     pub bytes: &'a [u8],
 }
 
-#[derive(Drop)]
+#[derive(Drop, Debug, PartialEq, Eq)]
 pub enum Command<'a> {
     ReadObject {
         at: Address,
@@ -38,7 +39,7 @@ pub enum Command<'a> {
     SegmentRead {
         toggle: bool,
     },
-    // `part` is None where `length` does not fit Len, which is judged after chain and toggle.
+    // `part` is None where `length` does not fit Len, which is judged after chain and toggle; the answer repeats `length` as it came.
     SegmentWrite {
         length: u8,
         toggle: bool,
@@ -47,54 +48,46 @@ pub enum Command<'a> {
     },
 }
 
-const READ_OBJECT: u8 = 0x60;
-
-const INITIATE_SEGMENTED_READ: u8 = 0x81;
-
-const WRITE_OBJECT: u8 = 0x68;
-
-const INITIATE_SEGMENTED_WRITE: u8 = 0x69;
-
-const SEGMENT_READ: u8 = 0x62;
-
-const SEGMENT_WRITE: u8 = 0x6a;
-
-// The most words of a SegmentWrite.
-const LONGEST_SEGMENT: usize = 129;
-
 // The place of a segment's bytes in the body: behind OpCode, Len, n and control.
 const SEGMENT_PLACE: usize = 4;
 
 // The command that a frame is, or the first of the checks of OpCode, Len and node that turns it away. It spends the frame.
+#[tactic(auto, unfolding(crate::specs::Frames::verb, crate::specs::Frames::len, crate::specs::Frames::read_toggle, crate::specs::Frames::number, crate::specs::Frames::declared, crate::specs::Frames::payload), using(crate::proofs::Names::names, crate::proofs::Names::names_none))]
 pub fn decode<'a>(frame: Frame<'a>, node: u8) -> Result<Command<'a>, CommandFault>
     ensures { Decodes node (frame_of frame.entry) result }
 {
-    match frame.opcode() {
-        READ_OBJECT => {
-            let (at, _) = addressed(&frame, 2, node)?;
+    let opcode = OpCode::try_from(frame.opcode())?;
+    let data = frame.data();
+    if !opcode.fits(data.len() / 2) {
+        return Err(CommandFault::Len);
+    }
+    match opcode {
+        OpCode::ReadObject => {
+            let (at, _) = addressed::<0>(&frame, node)?;
             Ok(Command::ReadObject { at })
         }
-        INITIATE_SEGMENTED_READ => {
-            let (at, _) = addressed(&frame, 2, node)?;
+        OpCode::InitiateSegmentedRead => {
+            let (at, _) = addressed::<0>(&frame, node)?;
             Ok(Command::InitiateSegmentedRead { at })
         }
-        WRITE_OBJECT => {
-            let (at, rest) = addressed(&frame, 4, node)?;
+        OpCode::WriteObject => {
+            let (at, rest) = addressed(&frame, node)?;
             Ok(Command::WriteObject {
                 at,
                 number: number(rest),
             })
         }
-        INITIATE_SEGMENTED_WRITE => {
-            let (at, rest) = addressed(&frame, 4, node)?;
+        OpCode::InitiateSegmentedWrite => {
+            let (at, rest) = addressed(&frame, node)?;
             Ok(Command::InitiateSegmentedWrite {
                 at,
                 declared: number(rest),
             })
         }
-        SEGMENT_READ => segment_read(&frame),
-        SEGMENT_WRITE => segment_write(&frame),
-        _ => Err(CommandFault::OpCode),
+        OpCode::SegmentRead => Ok(Command::SegmentRead {
+            toggle: toggle_in(data[0]),
+        }),
+        OpCode::SegmentWrite => Ok(segment_write(&frame)),
     }
 }
 
@@ -107,26 +100,24 @@ pub fn read_command<'a>(body: &'a [u8], node: u8) -> Result<Command<'a>, Fault>
     Ok(decode(frame, node)?)
 }
 
-// The address in front of the data, and the data behind it, of a command with an address.
-fn addressed<'a>(
+// The address in front of the data of a command for this node, and the N data bytes behind it.
+#[tactic(auto, unfolding(crate::specs::Frames::node_of, crate::specs::Frames::address))]
+fn addressed<'a, const N: usize>(
     frame: &Frame<'a>,
-    words: usize,
     node: u8,
-) -> Result<(Address, &'a [u8]), CommandFault>
-    requires { (concerns Node (verb (frame_of frame.now)) ≡ true) × (LenFits (verb (frame_of frame.now)) words) }
-    ensures { Opens node (frame_of frame.now) result }
+) -> Result<(Address, &'a [u8; N]), CommandFault>
+    requires verb { concerns Node (verb (frame_of frame.now)) ≡ true }
+    requires len { len_fits (verb (frame_of frame.now)) (len (frame_of frame.now)) ≡ true }
+    requires room { 4 + N ≤ length frame.now.«data».now }
+    ensures { Opens N node (frame_of frame.now) result }
 {
-    let data = frame.data();
-    if data.len() / 2 != words {
-        return Err(CommandFault::Len);
-    }
-    let [to, lo, hi, sub, rest @ ..] = data else {
-        return Err(CommandFault::Len);
+    let [to, lo, hi, sub, rest @ ..] = frame.data() else {
+        unreachable!()
     };
     if *to != node {
         return Err(CommandFault::Node);
     }
-    Ok((address(*lo, *hi, *sub), rest))
+    Ok((address(*lo, *hi, *sub), rest.first_chunk().unwrap()))
 }
 
 fn address(lo: u8, hi: u8, sub: u8) -> Address
@@ -139,35 +130,16 @@ fn address(lo: u8, hi: u8, sub: u8) -> Address
     }
 }
 
-// The first four bytes as one number, low byte first.
-fn number(bytes: &[u8]) -> u32
-    requires { 4 ≤ length bytes.now }
-    ensures value { result ≡ unsigned_value (take 4 bytes.now) }
-    ensures bytes { four result ≡ take 4 bytes.now }
+// Four bytes as one number, low byte first.
+#[tactic(auto, using(std::proofs::lemmas::Nat::le_bytes_4), unfolding(crate::specs::Answers::four))]
+fn number(bytes: &[u8; 4]) -> u32
+    ensures value { result ≡ unsigned_value bytes.now }
+    ensures bytes { four result ≡ bytes.now }
 {
-    match bytes {
-        [a, b, c, d, ..] => u32::from_le_bytes([*a, *b, *c, *d]),
-        _ => 0,
-    }
+    u32::from_le_bytes(*bytes)
 }
 
-fn segment_read<'a>(frame: &Frame<'a>) -> Result<Command<'a>, CommandFault>
-    requires { verb (frame_of frame.now) ≡ segment_read }
-    ensures { (node : ℕ) → Decodes node (frame_of frame.now) result }
-{
-    let data = frame.data();
-    if data.len() / 2 != 1 {
-        return Err(CommandFault::Len);
-    }
-    let [control, ..] = data else {
-        return Err(CommandFault::Len);
-    };
-    Ok(Command::SegmentRead {
-        toggle: toggle_in(*control),
-    })
-}
-
-// Bit 0 of control.
+// Bit 0 of control. One expression, as bit 1 below: a function of both bits would be no plainer.
 fn toggle_in(control: u8) -> bool
     ensures { result ≡ (control % 2 == 1) }
 {
@@ -181,44 +153,34 @@ fn last_in(control: u8) -> bool
     control / 2 % 2 == 1
 }
 
-// Whether a SegmentWrite may have so many words.
-fn is_segment(words: usize) -> bool
-    ensures { result ≡ len_fits segment_write words }
-{
-    words >= 1 && words <= LONGEST_SEGMENT
-}
-
-fn segment_write<'a>(frame: &Frame<'a>) -> Result<Command<'a>, CommandFault>
-    requires { verb (frame_of frame.now) ≡ segment_write }
-    ensures { (node : ℕ) → Decodes node (frame_of frame.now) result }
+// A SegmentWrite, by its data.
+#[tactic(auto, unfolding(crate::specs::Frames::size, crate::specs::Frames::write_toggle, crate::specs::Frames::marked, crate::specs::Frames::part, crate::specs::Frames::len))]
+fn segment_write<'a>(frame: &Frame<'a>) -> Command<'a>
+    requires verb { verb (frame_of frame.now) ≡ segment_write }
+    requires room { 2 ≤ length frame.now.«data».now }
+    ensures { Is (frame_of frame.now) result }
 {
     let data = frame.data();
-    let words = data.len() / 2;
-    if !is_segment(words) {
-        return Err(CommandFault::Len);
+    let (length, control) = (data[0], data[1]);
+    Command::SegmentWrite {
+        length,
+        toggle: toggle_in(control),
+        last: last_in(control),
+        part: segment_part(&data[2..], length, data.len() / 2),
     }
-    let [length, control, rest @ ..] = data else {
-        return Err(CommandFault::Len);
-    };
-    Ok(Command::SegmentWrite {
-        length: *length,
-        toggle: toggle_in(*control),
-        last: last_in(*control),
-        part: segment_part(rest, *length, words),
-    })
 }
 
 // The n bytes of a segment, where its words are those that n bytes need.
-fn segment_part<'a>(rest: &'a [u8], n: u8, words: usize) -> Option<Part<'a>>
+fn segment_part(rest: &[u8], n: u8, words: usize) -> Option<Part<'_>>
     requires { words ≤ 1 + length rest.now / 2 }
     ensures { part_values result ≡ (if nat_eq words (room n) then Some (4, take n rest.now) else None) }
 {
-    let n = n as usize;
-    if words != 1 + (n + 1) / 2 {
+    let n = usize::from(n);
+    if words != 1 + n.div_ceil(2) {
         return None;
     }
     Some(Part {
         place: SEGMENT_PLACE,
-        bytes: &rest[0..n],
+        bytes: &rest[..n],
     })
 }

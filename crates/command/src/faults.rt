@@ -3,30 +3,30 @@ ghost use Rattle.std.specs.Prelude.{◌≡◌};
 ghost use Rattle.command.specs.Faults.{code_of};
 ghost use Rattle.command.specs.declared.faults.Fault.TheVariants.{Wire, Command, Chain, Dictionary};
 
-// What may be wrong with a frame itself.
+// What may be wrong with a frame itself, by its abort code.
 #[derive(Clone, Copy, Debug, PartialEq, Eq)]
 pub enum CommandFault {
     // The OpCode names no command.
-    OpCode,
+    OpCode = 0x0f00_ffbf,
     // The command has another Len.
-    Len,
+    Len = 0x0607_0010,
     // The frame is for another node.
-    Node,
+    Node = 0x0f00_ffb9,
 }
 
-// What may be wrong with a segment of a chain.
+// What may be wrong with a segment of a chain, by its abort code.
 #[derive(Clone, Copy, Debug, PartialEq, Eq)]
 pub enum ChainFault {
     // No chain of its direction is open.
-    NoChain,
+    NoChain = 0x0800_0022,
     // It is the other toggle's turn.
-    Toggle,
+    Toggle = 0x0503_0000,
     // Its n bytes do not fit its Len.
-    Misfit,
+    Misfit = 0x0607_0010,
     // With it the chain would hold more bytes than declared.
-    SumOver,
+    SumOver = 0x0607_0012,
     // It is marked last, but the chain would hold fewer bytes than declared.
-    LastShort,
+    LastShort = 0x0607_0013,
 }
 
 #[derive(Clone, Copy, Debug, PartialEq, Eq)]
@@ -44,39 +44,14 @@ impl Fault {
     {
         match self {
             Fault::Wire(fault) => fault.code(),
-            Fault::Command(fault) => fault.code(),
-            Fault::Chain(fault) => fault.code(),
+            Fault::Command(fault) => fault as u32,
+            Fault::Chain(fault) => fault as u32,
             Fault::Dictionary(fault) => fault.code(),
         }
     }
 }
 
-impl CommandFault {
-    fn code(self) -> u32
-        ensures { result ≡ code_of (Command self) }
-    {
-        match self {
-            CommandFault::OpCode => 0x0f00_ffbf,
-            CommandFault::Len => 0x0607_0010,
-            CommandFault::Node => 0x0f00_ffb9,
-        }
-    }
-}
-
-impl ChainFault {
-    fn code(self) -> u32
-        ensures { result ≡ code_of (Chain self) }
-    {
-        match self {
-            ChainFault::NoChain => 0x0800_0022,
-            ChainFault::Toggle => 0x0503_0000,
-            ChainFault::Misfit => 0x0607_0010,
-            ChainFault::SumOver => 0x0607_0012,
-            ChainFault::LastShort => 0x0607_0013,
-        }
-    }
-}
-
+// By hand: a derive would not state `from_gives`, which fault a `?` makes.
 impl From<wire::Fault> for Fault {
     ghost from_gives = { λ e r. r ≡ Wire e };
 

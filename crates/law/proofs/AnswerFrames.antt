@@ -50,28 +50,28 @@ answer_is x y e = sym (content_is x) ∙ ap (λ l. (frame_in l).content) (framed
 
 other_code : (k : Check) → code_in (refused_data (fault_of k)) ≡ damaged_code → ⊥
 unfolding four
-other_code OpCode e = let z : ◌≡◌ {A = ℕ} 0x0F00FFBF 0x05040004 = e in omega arith
-other_code Len e = let z : ◌≡◌ {A = ℕ} 0x06070010 0x05040004 = e in omega arith
-other_code Node e = let z : ◌≡◌ {A = ℕ} 0x0F00FFB9 0x05040004 = e in omega arith
-other_code NoChain e = let z : ◌≡◌ {A = ℕ} 0x08000022 0x05040004 = e in omega arith
-other_code Toggle e = let z : ◌≡◌ {A = ℕ} 0x05030000 0x05040004 = e in omega arith
-other_code NAgainstLen e = let z : ◌≡◌ {A = ℕ} 0x06070010 0x05040004 = e in omega arith
-other_code SumOver e = let z : ◌≡◌ {A = ℕ} 0x06070012 0x05040004 = e in omega arith
-other_code LastShort e = let z : ◌≡◌ {A = ℕ} 0x06070013 0x05040004 = e in omega arith
-other_code Index e = let z : ◌≡◌ {A = ℕ} 0x06020000 0x05040004 = e in omega arith
-other_code Subindex e = let z : ◌≡◌ {A = ℕ} 0x06090011 0x05040004 = e in omega arith
-other_code ReadOfWo e = let z : ◌≡◌ {A = ℕ} 0x06010001 0x05040004 = e in omega arith
-other_code WriteOfRo e = let z : ◌≡◌ {A = ℕ} 0x06010002 0x05040004 = e in omega arith
-other_code OnRun e = let z : ◌≡◌ {A = ℕ} 0x06070010 0x05040004 = e in omega arith
-other_code OverLength e = let z : ◌≡◌ {A = ℕ} 0x06070012 0x05040004 = e in omega arith
-other_code UnderLength e = let z : ◌≡◌ {A = ℕ} 0x06070013 0x05040004 = e in omega arith
-other_code OverHigh e = let z : ◌≡◌ {A = ℕ} 0x06090031 0x05040004 = e in omega arith
-other_code UnderLow e = let z : ◌≡◌ {A = ℕ} 0x06090032 0x05040004 = e in omega arith
+other_code OpCode e = omega (arith, e)
+other_code Len e = omega (arith, e)
+other_code Node e = omega (arith, e)
+other_code NoChain e = omega (arith, e)
+other_code Toggle e = omega (arith, e)
+other_code NAgainstLen e = omega (arith, e)
+other_code SumOver e = omega (arith, e)
+other_code LastShort e = omega (arith, e)
+other_code Index e = omega (arith, e)
+other_code Subindex e = omega (arith, e)
+other_code ReadOfWo e = omega (arith, e)
+other_code WriteOfRo e = omega (arith, e)
+other_code OnRun e = omega (arith, e)
+other_code OverLength e = omega (arith, e)
+other_code UnderLength e = omega (arith, e)
+other_code OverHigh e = omega (arith, e)
+other_code UnderLow e = omega (arith, e)
 
 other_by : (x : Option Check) (w : Bytes) → code_in (by_fault x (λ k. refused_data (fault_of k)) (accepted_data w)) ≡ damaged_code → ⊥
 unfolding four
 other_by (Some k) w e = other_code k e
-other_by None w e = let z : ◌≡◌ {A = ℕ} 0 0x05040004 = e in omega arith
+other_by None w e = omega (arith, e)
 
 pub carried_code : (node : ℕ) (d : Objects) (c : OpenChain) (f : Frame) → code_in (carry node d c f).data_back ≡ damaged_code → ⊥
 unfolding answer carry

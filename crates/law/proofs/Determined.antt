@@ -1,5 +1,5 @@
 -- Two lawful runs of the same calls brought the same and left the same: by induction, each call's answer rests on the same history.
-use Rattle.std.proofs.Common.{◌≡◌, ℕ, List, [], ◌∷◌, Some, None, Option, sym, refl, ap, ◌∙◌, subst, inl, inr, arith}
+use Rattle.std.proofs.Common.{◌≡◌, ℕ, List, [], ◌∷◌, Some, None, Option, sym, refl, ap, ◌∙◌, subst, inl, inr}
 use mathlib.Core.Path.{fun_ext}
 use Rattle.std.proofs.lemmas.Bool.{cases_Bool}
 use Rattle.wire.specs.Checking.{frame_in, fits}
@@ -23,7 +23,7 @@ use Rattle.law.proofs.Ports.{nothing_answered}
 -- Objects with the same entries and values are the same
 
 unlike_absent : {P : Type 0} (a : Access) (s : Shape) → no_subindex ≡ present a s → P
-unlike_absent a s e = let z : ◌≡◌ {A = ℕ} 0 1 = cc in absurd (omega arith)
+unlike_absent a s e = cc
 
 same_access : (a b : Access) (s t : Shape) → present a s ≡ present b t → a ≡ b
 same_access a b s t e = cc
@@ -41,8 +41,8 @@ object_same (Some o) (Some p) e v =
     λ i. Some (record { access = a i; shape = s i; value = v i })
 
 index_known : {P : Type 0} (o : Option Object) → no_index ≡ entry_of o → P
-index_known None e = let z : ◌≡◌ {A = ℕ} 0 1 = cc in absurd (omega arith)
-index_known (Some o) e = let z : ◌≡◌ {A = ℕ} 0 1 = cc in absurd (omega arith)
+index_known None e = cc
+index_known (Some o) e = cc
 
 under_same : (x y : Option (ℕ → Option Object)) → ((s : ℕ) → entry_under x s ≡ entry_under y s) → ((s : ℕ) → value_under x s ≡ value_under y s) → x ≡ y
 under_same None None e v = refl
@@ -125,7 +125,7 @@ module _ (node : ℕ) (d0 : Objects) where
   tail_calls c k cs ks e = cc
 
   none_cons : {P : Type 0} (c : Call) (cs : List Call) → [] ≡ c ∷ cs → P
-  none_cons c cs e = let z : ◌≡◌ {A = ℕ} 0 1 = cc in absurd (omega arith)
+  none_cons c cs e = cc
 
   same_run : (es fs : List Event) (log other : List Exchange) → calls es ≡ calls fs
       → InTurn (λ before e. Refusals e) es → InTurn (λ before e. Refusals e) fs → InTurn Reception es → InTurn Reception fs

@@ -1,5 +1,5 @@
 -- There is one chain that is open by the history.
-use Rattle.std.proofs.Common.{◌≡◌, ℕ, List, [], ◌∷◌, length, sym, refl, ◌∙◌, subst, arith}
+use Rattle.std.proofs.Common.{◌≡◌, ℕ, List, [], ◌∷◌, length, sym, refl, ◌∙◌, subst}
 use Rattle.dictionary.specs.Objects.{Bytes, Objects, value}
 use Rattle.dictionary.specs.declared.Address.{Address}
 use Rattle.wire.specs.Frames.{Frame}
@@ -26,10 +26,10 @@ read_tied node d0 [] = read_tied_none node d0
 read_tied node d0 (f ∷ hs) = read_next node d0 hs (after node d0 hs).objects (after node d0 hs).chain (kept node d0 hs) (read_tied node d0 hs) f
 
 never_writing : (a : Address) (n : ℕ) (bytes : Bytes) (t : ℕ) → closed ≡ writing a n bytes t → ⊥
-never_writing a n bytes t e = let z : ◌≡◌ {A = ℕ} 0 1 = cc in omega arith
+never_writing a n bytes t e = cc
 
 never_reading : (v : Bytes) (sent t : ℕ) → closed ≡ reading v sent t → ⊥
-never_reading v sent t e = let z : ◌≡◌ {A = ℕ} 0 1 = cc in omega arith
+never_reading v sent t e = cc
 
 module _ (node : ℕ) (d0 : Objects) (hs : List Frame) where
   pub open_of : (c : OpenChain) → Tied node d0 hs c → ReadTied node d0 hs c → OpenAfter node d0 hs c

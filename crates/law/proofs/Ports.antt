@@ -29,13 +29,13 @@ use Rattle.law.proofs.Exchanges.{ExchangesLaw}
 -- what a call brings is one of three
 
 pub refused_answered : {P : Type 0} (n : ℕ) (x : Bytes) → refused n ≡ answered x → P
-refused_answered n x e = let z : ◌≡◌ {A = ℕ} 0 1 = cc in absurd (omega arith)
+refused_answered n x e = cc
 
 pub nothing_refused : {P : Type 0} (n : ℕ) → nothing ≡ refused n → P
-nothing_refused n e = let z : ◌≡◌ {A = ℕ} 0 1 = cc in absurd (omega arith)
+nothing_refused n e = cc
 
 pub nothing_answered : {P : Type 0} (x : Bytes) → nothing ≡ answered x → P
-nothing_answered x e = let z : ◌≡◌ {A = ℕ} 0 1 = cc in absurd (omega arith)
+nothing_answered x e = cc
 
 pub answered_is : (x y : Bytes) → answered x ≡ answered y → x ≡ y
 answered_is x y e = cc
@@ -44,7 +44,7 @@ refused_is : (m n : ℕ) → refused m ≡ refused n → m ≡ n
 refused_is m n e = cc
 
 pub none_some : {X P : Type 0} (x : X) → None ≡ Some x → P
-none_some x e = let z : ◌≡◌ {A = ℕ} 0 1 = cc in absurd (omega arith)
+none_some x e = cc
 
 some_is : {X : Type 0} (x y : X) → Some x ≡ Some y → x ≡ y
 some_is x y e = cc

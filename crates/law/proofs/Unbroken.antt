@@ -1,5 +1,5 @@
 -- An unbroken chain of a history came about with its newest frame in one of three ways: begun by it, continued by it, or left alone.
-use Rattle.std.proofs.Common.{◌≡◌, ℕ, Bool, true, false, cond, List, [], ◌∷◌, ◌++◌, sym, refl, ap, subst, arith}
+use Rattle.std.proofs.Common.{◌≡◌, Bool, true, false, cond, List, [], ◌∷◌, ◌++◌, sym, refl, ap, subst}
 use Rattle.wire.specs.Frames.{Frame}
 use Rattle.command.specs.Frames.{verb, of_chain}
 use Rattle.law.specs.Histories.{chain_frames, InTurn, UnbrokenChain, itself}
@@ -10,8 +10,8 @@ pub data Came (Starts Continues : List Frame → Frame → Type 0) (f : Frame) (
   extended : (before : List Frame) → UnbrokenChain itself Starts Continues hs before → Continues before f → segments ≡ f ∷ before → Came Starts Continues f hs segments
 
 pub never : {X : Type 0} (since : List X) (start : X) (earlier : List X) → [] ≡ since ++ (start ∷ earlier) → ⊥
-never [] start earlier e = let z : ◌≡◌ {A = ℕ} 0 1 = cc in omega arith
-never (g ∷ since) start earlier e = let z : ◌≡◌ {A = ℕ} 0 1 = cc in omega arith
+never [] start earlier e = cc
+never (g ∷ since) start earlier e = cc
 
 module _ {Starts Continues : List Frame → Frame → Type 0} where
   module _ (f : Frame) (hs segments : List Frame) where

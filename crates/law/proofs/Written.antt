@@ -1,5 +1,5 @@
 -- A frame brings about a write exactly where, by the history, it completes one.
-use Rattle.std.proofs.Common.{◌≡◌, ℕ, Bool, true, false, cond, List, ◌++◌, Some, None, Option, sym, refl, ap, ◌∙◌, subst, subst₂, inl, inr, arith}
+use Rattle.std.proofs.Common.{◌≡◌, ℕ, Bool, true, false, cond, List, ◌++◌, Some, None, Option, sym, refl, ap, ◌∙◌, subst, subst₂, inl, inr}
 use Rattle.dictionary.specs.Objects.{Bytes, Objects, look, Admits}
 use Rattle.dictionary.specs.declared.Address.{Address}
 use Rattle.command.specs.Checks.{low_bytes}
@@ -17,7 +17,7 @@ use Rattle.law.proofs.Passing.{Same, fault_at, object_from, object_back, last_fr
 use Rattle.law.proofs.WriteChains.{Tied, OpenIfWriting}
 
 pub nothing : {P : Type 0} (w : Write) → None ≡ Some w → P
-nothing w e = let z : ◌≡◌ {A = ℕ} 0 1 = cc in absurd (omega arith)
+nothing w e = cc
 
 pub some_at : (u w : Write) → Some u ≡ Some w → u ≡ w
 some_at u w e = cc

@@ -11,7 +11,7 @@ use Rattle.wire.specs.Framing.{laid}
 use Rattle.wire.specs.Receiving.{Step, step, front}
 use Rattle.dictionary.specs.Objects.{Bytes, Objects}
 use Rattle.command.specs.Answers.{refused_data, accepted_data}
-use Rattle.command.specs.Checks.{Check, OpenChain, fault, fault_of}
+use Rattle.command.specs.Checks.{Check, OpenChain, closed, fault, fault_of}
 use Rattle.command.specs.Commands.{by_fault, brings_back, answer, carry}
 use Rattle.command.specs.Frames.{verb}
 use Rattle.law.specs.Calls.{Brought, refused, nothing, answered, Event, refusal, answer_frame}
@@ -23,8 +23,6 @@ use Rattle.port.specs.declared.ports.Port.{Port}
 use Rattle.port.specs.declared.ports.Refusal.{Refusal}
 use Rattle.port.specs.declared.ports.Refusal.TheVariants.{FrameMemory, StagingMemory, AnswerMemory}
 use Rattle.port.specs.declared.ports.Reply.{Reply}
-use Rattle.port.specs.declared.states.State.{State}
-use Rattle.port.specs.declared.states.State.TheVariants.{Closed}
 use Rattle.port.specs.Chains.{chain_of}
 use Rattle.port.specs.Ports.{refusal_number, answer_of, Board, board, Called, call_result, refused_call, received, served, taken_call, byte_of}
 use Rattle.port.specs.Runs.{LedToPort, brought_by, ByteKeepsLaw}
@@ -32,23 +30,12 @@ use Rattle.port.specs.Serving.{frame_done, body_done}
 
 -- Opening and silence.
 
-pub opened : (node : ℕ) (phase : Phase) (n : ℕ) (state : State) → phase ≡ Hunting → n ≡ 0 → state ≡ Closed
-    → (d0 : Objects) (frame staging : Bytes) → LedTo node d0 [] phase (take n frame) (chain_of state staging) d0
-opened node phase n state e f g d0 frame staging =
-    subst (λ q. LedTo node d0 [] q (take n frame) (chain_of state staging) d0) (sym e)
-    (subst (λ k. LedTo node d0 [] Hunting (take k frame) (chain_of state staging) d0) (sym f)
-    (subst (λ s. LedTo node d0 [] Hunting [] (chain_of s staging) d0) (sym g) (law_over_runs.opening node d0)))
+pub opened : (node : ℕ) (phase : Phase) (n : ℕ) (d0 : Objects) (frame : Bytes) → phase ≡ Hunting → n ≡ 0 → LedTo node d0 [] phase (take n frame) closed d0
+opened node phase n d0 frame e f = rw (e, f) (law_over_runs.opening node d0)
 
-pub silent : (node node1 : ℕ) (phase phase1 : Phase) (n n1 : ℕ) (state state1 : State) → node1 ≡ node → phase1 ≡ Hunting → n1 ≡ 0 → state1 ≡ state
-    → (d0 : Objects) (events : List Event) (d : Objects) (frame staging : Bytes) → LedTo node d0 events phase (take n frame) (chain_of state staging) d
-    → LedTo node1 d0 (event calls.silence nothing ∷ events) phase1 (take n1 frame) (chain_of state1 staging) d
-silent node node1 phase phase1 n n1 state state1 own e f g d0 events d frame staging led =
-    let next : LedTo node d0 (event calls.silence nothing ∷ events) Hunting [] (chain_of state staging) d
-    = (law_over_runs.every_call node d0 events phase (take n frame) (chain_of state staging) d led).silence_call in
-    subst (λ m. LedTo m d0 (event calls.silence nothing ∷ events) phase1 (take n1 frame) (chain_of state1 staging) d) (sym own)
-    (subst (λ q. LedTo node d0 (event calls.silence nothing ∷ events) q (take n1 frame) (chain_of state1 staging) d) (sym e)
-    (subst (λ k. LedTo node d0 (event calls.silence nothing ∷ events) Hunting (take k frame) (chain_of state1 staging) d) (sym f)
-    (subst (λ s. LedTo node d0 (event calls.silence nothing ∷ events) Hunting [] (chain_of s staging) d) (sym g) next)))
+pub silent : (node : ℕ) (phase phase1 : Phase) (n n1 : ℕ) (c : OpenChain) (d0 : Objects) (events : List Event) (d : Objects) (frame : Bytes) → phase1 ≡ Hunting → n1 ≡ 0
+    → LedTo node d0 events phase (take n frame) c d → LedTo node d0 (event calls.silence nothing ∷ events) phase1 (take n1 frame) c d
+silent node phase phase1 n n1 c d0 events d frame e f led = rw (e, f) (law_over_runs.every_call node d0 events phase (take n frame) c d led).silence_call
 
 -- Refusals.
 
@@ -166,11 +153,9 @@ module _ (p p1 : Port) (d d1 : Objects) (frame staging answers frame1 staging1 a
       let told = short_refusal (length frame) (length staging) (length answers) (Some n) e short in
       let number : n ≡ refusal_number e = (let h = told.1 in cc) in
       let brought : refused n ≡ brought_by r answers1 = ap refused number ∙ ap (λ x. brought_by x answers1) (sym result) in
-      let next = (law_over_runs.every_call p.node d0 events p.receiver.phase (take p.receiver.gathered mine) (chain_of p.chain.state mine-staging) d led
+      let next = (law_over_runs.every_call p.node d0 events p.receiver.phase (take p.receiver.gathered mine) (chain_of p.chain mine-staging) d led
       ).refused_byte b (length frame) (length staging) (length answers) n told.0 in
-      subst (λ (q : Port). LedToPort d0 (this (brought_by r answers1) ∷ events) q d1 mine mine-staging) (sym (still e result))
-      (subst (λ x. LedToPort d0 (this (brought_by r answers1) ∷ events) p x mine mine-staging) (sym objects)
-      (subst (λ x. LedToPort d0 (this x ∷ events) p d mine mine-staging) brought next))
+      rw (still e result, objects, ← brought) next
 
   taken_keeps : (d0 : Objects) (events : List Event) → Enough (length frame) (length staging) (length answers)
       → LedToPort d0 events p d frame staging → LedToPort d0 (this (brought_by r answers1) ∷ events) p1 d1 frame1 staging1
@@ -178,16 +163,11 @@ module _ (p p1 : Port) (d d1 : Objects) (frame staging answers frame1 staging1 a
       let s : Step = now_step in
       let call : call_result r (board p1 d1 frame1 staging1 answers1) ≡ served p.node (received before s) s.body = steps ∙ enough_call p.node before b enough in
       let x = subst (Brings p.node (received before s) s.body) (sym call) (brings p.node (received before s) s.body) in
-      let o : Served = law.served p.node (chain_of p.chain.state staging) d s.body in
+      let o : Served = law.served p.node (chain_of p.chain staging) d s.body in
       let gathered : take p1.receiver.gathered frame1 ≡ take (length s.gathered) (laid (front s) frame) = λ i. take (x.count i) (x.frame i) in
-      let next = (law_over_runs.every_call p.node d0 events p.receiver.phase (take p.receiver.gathered frame) (chain_of p.chain.state staging) d led
+      let next = (law_over_runs.every_call p.node d0 events p.receiver.phase (take p.receiver.gathered frame) (chain_of p.chain staging) d led
       ).taken_in_memory b (length frame) (length staging) (length answers) (enough_refusal (length frame) (length staging) (length answers) enough) frame in
-      subst (λ node. LedTo node d0 (this (brought_by r answers1) ∷ events) p1.receiver.phase (take p1.receiver.gathered frame1) (chain_of p1.chain.state staging1) d1) (sym own)
-      (subst (λ q. LedTo p.node d0 (this (brought_by r answers1) ∷ events) q (take p1.receiver.gathered frame1) (chain_of p1.chain.state staging1) d1) (sym x.phase)
-      (subst (λ g. LedTo p.node d0 (this (brought_by r answers1) ∷ events) s.phase g (chain_of p1.chain.state staging1) d1) (sym gathered)
-      (subst (λ c. LedTo p.node d0 (this (brought_by r answers1) ∷ events) s.phase (take (length s.gathered) (laid (front s) frame)) c d1) (sym x.chain)
-      (subst (λ z. LedTo p.node d0 (this (brought_by r answers1) ∷ events) s.phase (take (length s.gathered) (laid (front s) frame)) o.chain z) (sym x.objects)
-      (subst (λ y. LedTo p.node d0 (this y ∷ events) s.phase (take (length s.gathered) (laid (front s) frame)) o.chain o.objects) (sym x.brought) next)))))
+      rw (own, x.phase, gathered, x.chain, x.objects, x.brought) next
 
   none_short : (n : ℕ) (e : Refusal) → Short (length frame) (length staging) (length answers) (Some n) e → refusal (length frame) (length staging) (length answers) ≡ None → ⊥
   none_short n e short none =
@@ -205,8 +185,7 @@ module _ (p p1 : Port) (d d1 : Objects) (frame staging answers frame1 staging1 a
         too_small = λ d0 events n mine mine-staging some led. elim (which (length frame) (length staging) (length answers)) [
           | inl enough ↦
               let h = enough_refusal (length frame) (length staging) (length answers) enough in
-              let z : ◌≡◌ {A = ℕ} 0 1 = cc in
-              absurd (omega arith)
+              cc
           | inr w ↦ refused_keeps d0 events w.0 w.1 mine mine-staging w.2 led
         ];
       }

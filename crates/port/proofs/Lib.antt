@@ -9,5 +9,6 @@ pub mod SegmentWrites
 pub mod SegmentJoins
 pub mod Keeping
 pub mod Taking
+pub mod Widening
 pub mod Granting
 pub mod Running

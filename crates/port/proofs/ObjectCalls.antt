@@ -1,6 +1,6 @@
 -- What the calls on one object answer and leave, by the table: each is first told in the dictionary's checks.
-use Rattle.std.proofs.Common.{◌≡◌, ℕ, ◌<◌, ◌≤◌, Bool, true, false, cond, ltb, ◌⊎◌, List, [], ◌∷◌, length, take, ℤ, IfOk, Some, None, Ok, Err, Option, Result, sym, refl, ap, ◌∙◌, subst, inl, inr, arith}
-use Rattle.std.proofs.lemmas.Bool.{le-ltb, lt-ltb}
+use Rattle.std.proofs.Common.{◌≡◌, ℕ, ◌≤◌, Bool, true, false, cond, ◌⊎◌, List, [], ◌∷◌, length, take, ℤ, IfOk, Some, None, Ok, Err, Option, Result, sym, refl, ap, ◌∙◌, subst, inl, inr, arith}
+use Rattle.std.proofs.lemmas.Bool.{le-ltb}
 use Rattle.dictionary.specs.declared.Access.{Access}
 use Rattle.dictionary.specs.declared.Access.TheVariants.{Ro, Wo, Rw}
 use Rattle.dictionary.specs.declared.Address.{Address}
@@ -9,19 +9,19 @@ use Rattle.dictionary.specs.declared.Fault.TheVariants.{NoIndex, NoSubindex, Wri
 use Rattle.dictionary.specs.declared.Look.{Look}
 use Rattle.dictionary.specs.declared.Shape.{Shape}
 use Rattle.dictionary.specs.declared.Shape.TheVariants.{Number, Run}
-use Rattle.dictionary.specs.Calls.{answer, leaves, told, look_answer, write_answer, after_write}
-use Rattle.dictionary.specs.Checks.{is_wo, is_ro, write_only, read_only, is_run, over_length, under_length, over_high, under_low, read_fault, write_fault}
+use Rattle.dictionary.specs.Calls.{answer, leaves, told, look_answer, read_answer, memory_after_read, write_answer, after_write}
+use Rattle.dictionary.specs.Checks.{is_wo, is_ro, write_only, read_only, is_run, over_length, under_length, over_high, under_low, access_read_fault, access_write_fault, length_fault, read_fault, write_fault}
 use Rattle.dictionary.specs.Checks.{first as first-in}
-use Rattle.dictionary.specs.Objects.{Bytes, Objects, Entry, no_index, no_subindex, present, look, value, put, MayBeRead, TakesLength, Sound}
+use Rattle.dictionary.specs.Objects.{Bytes, Objects, Entry, no_index, no_subindex, present, look, value, put, TakesLength, Sound}
 use Rattle.dictionary.proofs.Words.{clear, reads_from, takes_from, readable_back}
-use Rattle.wire.specs.Frames.{Frame}
+use Rattle.wire.specs.Framing.{laid}
 use Rattle.command.specs.declared.commands.Command.TheVariants.{ReadObject, InitiateSegmentedRead, WriteObject, InitiateSegmentedWrite}
 use Rattle.command.specs.declared.answers.Answer.{Answer}
-use Rattle.command.specs.Answers.{four, shown, value_answer, accepted_data, value_back}
-use Rattle.command.specs.Checks.{Check, OpenChain, fault, low_bytes}
+use Rattle.command.specs.declared.faults.Fault.{Fault}
+use Rattle.command.specs.Answers.{four, value_answer, accepted_data, value_back}
+use Rattle.command.specs.Checks.{Check, fault, low_bytes}
 use Rattle.command.specs.Commands.{by_fault, Write, writes, write_of, apply}
-use Rattle.command.specs.Decoding.{Is, command_check}
-use Rattle.port.specs.Objects.{EachFrame, by_table, of_dictionary}
+use Rattle.port.specs.Objects.{of_dictionary, Tells, Answers, Writes, Stages}
 use Rattle.port.proofs.ObjectRows.{absent_checks, number_read_checks, any_read_checks, length_checks, number_write_checks, answered, left}
 use Rattle.port.proofs.ObjectRows.{read_object_finds, initiate_read_finds, write_object_finds, initiate_write_finds}
 
@@ -32,23 +32,20 @@ done y = answer y tt
 abbrev pub verdict : List (Bool × dictionary.Fault) → Result (Unit {0}) dictionary.Fault
 verdict cs = done (first-in cs)
 
-clash : {X : Type 0} → ◌≡◌ {A = ℕ} 0 1 → X
-clash z = absurd (omega (arith, z))
-
 -- What is told of an entry, and the entry.
 
 abbrev as_told : Access → Shape → ℕ → Look
 as_told a s n = record { access = a; shape = s; length = n }
 
 seen : (e : Entry) (n : ℕ) (l : Look) → Ok l ≡ told e n → e ≡ present l.access l.shape
-seen no_index n l h = clash cc
-seen no_subindex n l h = clash cc
+seen no_index n l h = cc
+seen no_subindex n l h = cc
 seen (present a s) n l h = let q : as_told a s n ≡ l = cc in ap (λ (k : Look). present k.access k.shape) q
 
 unseen : (e : Entry) (n : ℕ) (x : dictionary.Fault) (more : List (Bool × dictionary.Fault)) → Err x ≡ told e n → Err x ≡ verdict (absent_checks e more)
 unseen no_index n x more h = let q : x ≡ NoIndex = cc in ap Err q
 unseen no_subindex n x more h = let q : x ≡ NoSubindex = cc in ap Err q
-unseen (present a s) n x more h = clash cc
+unseen (present a s) n x more h = cc
 
 -- An entry that is not there is told of alike by every call.
 
@@ -68,15 +65,20 @@ module _ (d : Objects) (at : Address) (x : dictionary.Fault) (h : Err x ≡ look
       ((read_only missing, ReadOnly) ∷ ((is_run missing, NotNumber) ∷ ((over_length missing (length v), TooLong) ∷ ((under_length missing (length v), TooShort) ∷ ((over_high missing v, OverHigh) ∷ ((under_low missing v, UnderLow) ∷ []))))))
       h
 
-not_wo : (a : Access) → (a ≡ Wo → ⊥) → is_wo a ≡ false
-not_wo Ro h = refl
-not_wo Wo h = absurd (h refl)
-not_wo Rw h = refl
+-- A check that an access makes alone comes first among the checks of its entry.
 
-not_ro : (a : Access) → (a ≡ Ro → ⊥) → is_ro a ≡ false
-not_ro Ro h = absurd (h refl)
-not_ro Wo h = refl
-not_ro Rw h = refl
+barred : (b : Bool) (f : dictionary.Fault) (rest : Option dictionary.Fault) (x : dictionary.Fault) → Err x ≡ done (cond b (Some f) None) → Err x ≡ done (cond b (Some f) rest)
+barred true f rest x h = h
+barred false f rest x h = cc
+
+passed : (b : Bool) (f : dictionary.Fault) (rest : Option dictionary.Fault) → Ok tt ≡ done (cond b (Some f) None) → done rest ≡ done (cond b (Some f) rest)
+passed true f rest h = cc
+passed false f rest h = refl
+
+-- the checks of a length are those of the shape
+sized : (a : Access) (s : Shape) (n : ℕ) → length_fault s n ≡ first-in ((over_length (present a s) n, TooLong) ∷ ((under_length (present a s) n, TooShort) ∷ []))
+sized a (Number w s low high) n = refl
+sized a (Run capacity) n = refl
 
 -- What is told of an entry decides each check.
 
@@ -84,71 +86,45 @@ module _ (d : Objects) (at : Address) (l : Look) (h : Ok l ≡ look_answer d at)
   abbrev here : Entry
   here = look d at
 
-  as_seen : (a : Access) (s : Shape) → l.access ≡ a → l.shape ≡ s → here ≡ present a s
-  as_seen a s p q = seen here (length (value d at)) l h ∙ (λ i. present (p i) (q i))
+  pub here_is : present l.access l.shape ≡ here
+  here_is = sym (seen here (length (value d at)) l h)
 
-  pub number_wo : l.access ≡ Wo → Err WriteOnly ≡ verdict (number_read_checks here)
-  number_wo p = ap (λ x. verdict (number_read_checks x)) (sym (as_seen Wo l.shape p refl))
+  as_seen : (s : Shape) → l.shape ≡ s → here ≡ present l.access s
+  as_seen s q = sym here_is ∙ ap (present l.access) q
 
-  pub number_run : (l.access ≡ Wo → ⊥) → (capacity : ℕ) → l.shape ≡ Run capacity → Err NotNumber ≡ verdict (number_read_checks here)
-  number_run p capacity q =
-      ap (λ b. done (cond {A = Option dictionary.Fault} b (Some WriteOnly) (Some NotNumber))) (sym (not_wo l.access p))
-      ∙ ap (λ x. verdict (number_read_checks x)) (sym (as_seen l.access (Run capacity) refl q))
+  pub number_barred : (x : dictionary.Fault) → Err x ≡ done (access_read_fault l.access) → Err x ≡ verdict (number_read_checks here)
+  number_barred x p =
+      barred (is_wo l.access) WriteOnly (first-in ((is_run (present l.access l.shape), NotNumber) ∷ [])) x p ∙ ap (λ e. verdict (number_read_checks e)) here_is
 
-  pub number_ok : (l.access ≡ Wo → ⊥) → (w : ℕ) (s : Bool) (low high : ℤ) → l.shape ≡ Number w s low high → Ok tt ≡ verdict (number_read_checks here)
-  number_ok p w s low high q =
-      ap (λ b. done (cond {A = Option dictionary.Fault} b (Some WriteOnly) None)) (sym (not_wo l.access p))
-      ∙ ap (λ x. verdict (number_read_checks x)) (sym (as_seen l.access (Number w s low high) refl q))
+  pub number_run : Ok tt ≡ done (access_read_fault l.access) → (capacity : ℕ) → l.shape ≡ Run capacity → Err NotNumber ≡ verdict (number_read_checks here)
+  number_run p capacity q = passed (is_wo l.access) WriteOnly (Some NotNumber) p ∙ ap (λ e. verdict (number_read_checks e)) (sym (as_seen (Run capacity) q))
 
-  module _ (size : ℕ) where
-    pub length_ro : l.access ≡ Ro → Err ReadOnly ≡ verdict (length_checks here size)
-    length_ro p = ap (λ x. verdict (length_checks x size)) (sym (as_seen Ro l.shape p refl))
+  pub number_ok : Ok tt ≡ done (access_read_fault l.access) → (w : ℕ) (s : Bool) (low high : ℤ) → l.shape ≡ Number w s low high → Ok tt ≡ verdict (number_read_checks here)
+  number_ok p w s low high q = passed (is_wo l.access) WriteOnly None p ∙ ap (λ e. verdict (number_read_checks e)) (sym (as_seen (Number w s low high) q))
 
-    abbrev by_lengths : Bool → Bool → Bool → Result (Unit {0}) dictionary.Fault
-    by_lengths ro over under = done (cond {A = Option dictionary.Fault} ro (Some ReadOnly) (cond {A = Option dictionary.Fault} over (Some TooLong) (cond {A = Option dictionary.Fault} under (Some TooShort) None)))
+  pub length_barred : (n : ℕ) (x : dictionary.Fault) → Err x ≡ done (access_write_fault l.access) → Err x ≡ verdict (length_checks here n)
+  length_barred n x p = barred (is_ro l.access) ReadOnly _ x p ∙ (ap (λ y. done (cond (is_ro l.access) (Some ReadOnly) y)) (sized l.access l.shape n) ∙ ap (λ e. verdict (length_checks e n)) here_is)
 
-    module _ (p : l.access ≡ Ro → ⊥) where
-      module _ (w : ℕ) (s : Bool) (low high : ℤ) (q : l.shape ≡ Number w s low high) where
-        at_width : (over under : Bool) → ltb w size ≡ over → ltb size w ≡ under → by_lengths false over under ≡ verdict (length_checks here size)
-        at_width over under x y =
-            (λ i. by_lengths (sym (not_ro l.access p) i) (sym x i) (sym y i))
-            ∙ ap (λ z. verdict (length_checks z size)) (sym (as_seen l.access (Number w s low high) refl q))
-
-        pub number_over : w < size → Err TooLong ≡ verdict (length_checks here size)
-        number_over k = at_width true (ltb size w) (lt-ltb w size k) refl
-
-        pub number_under : size < w → Err TooShort ≡ verdict (length_checks here size)
-        number_under k = at_width false true (le-ltb w size (omega arith)) (lt-ltb size w k)
-
-        pub number_even : size ≤ w → w ≤ size → Ok tt ≡ verdict (length_checks here size)
-        number_even k j = at_width false false (le-ltb w size k) (le-ltb size w j)
-
-      module _ (capacity : ℕ) (q : l.shape ≡ Run capacity) where
-        at_capacity : (over : Bool) → ltb capacity size ≡ over → by_lengths false over false ≡ verdict (length_checks here size)
-        at_capacity over x =
-            (λ i. by_lengths (sym (not_ro l.access p) i) (sym x i) false)
-            ∙ ap (λ z. verdict (length_checks z size)) (sym (as_seen l.access (Run capacity) refl q))
-
-        pub run_over : capacity < size → Err TooLong ≡ verdict (length_checks here size)
-        run_over k = at_capacity true (lt-ltb capacity size k)
-
-        pub run_within : size ≤ capacity → Ok tt ≡ verdict (length_checks here size)
-        run_within k = at_capacity false (le-ltb capacity size k)
+  pub length_sized : (n : ℕ) → Ok tt ≡ done (access_write_fault l.access) → done (length_fault l.shape n) ≡ verdict (length_checks here n)
+  length_sized n p = passed (is_ro l.access) ReadOnly _ p ∙ (ap (λ y. done (cond (is_ro l.access) (Some ReadOnly) y)) (sized l.access l.shape n) ∙ ap (λ e. verdict (length_checks e n)) here_is)
 
   -- a write of a number
   module _ (bytes : Bytes) where
-    pub written_ro : l.access ≡ Ro → Err ReadOnly ≡ verdict (number_write_checks here (low_bytes here bytes))
-    written_ro p = ap (λ x. verdict (number_write_checks x (low_bytes x bytes))) (sym (as_seen Ro l.shape p refl))
+    pub written_barred : (x : dictionary.Fault) → Err x ≡ done (access_write_fault l.access) → Err x ≡ verdict (number_write_checks here (low_bytes here bytes))
+    written_barred x p =
+        let e = present l.access l.shape in
+        let v = low_bytes e bytes in
+        barred (is_ro l.access) ReadOnly
+        (first-in ((is_run e, NotNumber) ∷ ((over_length e (length v), TooLong) ∷ ((under_length e (length v), TooShort) ∷ ((over_high e v, OverHigh) ∷ ((under_low e v, UnderLow) ∷ [])))))) x p
+        ∙ ap (λ y. verdict (number_write_checks y (low_bytes y bytes))) here_is
 
-    pub written_run : (l.access ≡ Ro → ⊥) → (capacity : ℕ) → l.shape ≡ Run capacity → Err NotNumber ≡ verdict (number_write_checks here (low_bytes here bytes))
-    written_run p capacity q =
-        ap (λ b. done (cond {A = Option dictionary.Fault} b (Some ReadOnly) (Some NotNumber))) (sym (not_ro l.access p))
-        ∙ ap (λ x. verdict (number_write_checks x (low_bytes x bytes))) (sym (as_seen l.access (Run capacity) refl q))
+    pub written_run : Ok tt ≡ done (access_write_fault l.access) → (capacity : ℕ) → l.shape ≡ Run capacity → Err NotNumber ≡ verdict (number_write_checks here (low_bytes here bytes))
+    written_run p capacity q = passed (is_ro l.access) ReadOnly (Some NotNumber) p ∙ ap (λ y. verdict (number_write_checks y (low_bytes y bytes))) (sym (as_seen (Run capacity) q))
 
     pub written_number : (w : ℕ) (s : Bool) (low high : ℤ) → l.shape ≡ Number w s low high → (now : Bytes) → now ≡ take w bytes
         → (now ≡ low_bytes here bytes) × (write_fault here now ≡ first-in (number_write_checks here (low_bytes here bytes)))
     written_number w s low high q now k =
-        let i = as_seen l.access (Number w s low high) refl q in
+        let i = as_seen (Number w s low high) q in
         let b : now ≡ low_bytes here bytes = k ∙ ap (λ x. low_bytes x bytes) (sym i) in
         (b, ap (λ v. write_fault here v) b ∙ (ap (λ x. write_fault x (low_bytes x bytes)) i ∙ sym (ap (λ x. first-in (number_write_checks x (low_bytes x bytes))) i)))
 
@@ -167,7 +143,7 @@ room_for (present a s) v room h =
 
 made_by : {X : Type 0} (y : Option dictionary.Fault) (x : X) (r : Result X dictionary.Fault) (P : X → Type 0) → r ≡ answer y x → (y ≡ None → P x) → IfOk r P
 made_by None x (Ok n) P e k = let q : x ≡ n = cc in subst P q (k refl)
-made_by (Some f) x (Ok n) P e k = clash cc
+made_by (Some f) x (Ok n) P e k = cc
 made_by y x (Err f) P e k = tt
 
 module _ (d : Objects) (sound : Sound d) (at : Address) where
@@ -178,11 +154,6 @@ module _ (d : Objects) (sound : Sound d) (at : Address) where
   value_small a (Number w s low high) e =
       let h = sound.allowed at a (Number w s low high) e in omega (arith, four_at_most w h.0, h.1)
   value_small a (Run capacity) e = let h = sound.allowed at a (Run capacity) e in omega (arith, h.0, h.1)
-
-  read_small : (e : Entry) → look d at ≡ e → MayBeRead e → length (value d at) ≤ 4096
-  read_small no_index i h = absurd h
-  read_small no_subindex i h = absurd h
-  read_small (present a s) i h = value_small a s i
 
   length_small : (e : Entry) → look d at ≡ e → (n : ℕ) → TakesLength e n → n ≤ 4096
   length_small no_index i n h = absurd h
@@ -199,69 +170,69 @@ module _ (d : Objects) (sound : Sound d) (at : Address) where
       length_small (look d at) refl n (takes_from (look d at) n (k.0, k.1.0, k.1.1.0) (k.1.1.1.0, k.1.1.1.1.0)))
 
   -- any value fits a memory of 4,096 bytes
-  pub roomy : (room : ℕ) → 4096 ≤ room → read_fault (look d at) (value d at) room ≡ first-in (any_read_checks (look d at))
+  roomy : (room : ℕ) → 4096 ≤ room → read_fault (look d at) (value d at) room ≡ first-in (any_read_checks (look d at))
   roomy room h = room_for (look d at) (value d at) room (λ a s e. omega (arith, value_small a s e))
-
-  pub staged_small : (r : Result ℕ dictionary.Fault) → r ≡ answer (first-in (any_read_checks (look d at))) (length (value d at)) → IfOk r (λ n. n ≤ 4096)
-  staged_small r e =
-      made_by (first-in (any_read_checks (look d at))) (length (value d at)) r (λ n. n ≤ 4096) e
-      (λ none. let k = clear (any_read_checks (look d at)) none in read_small (look d at) refl (reads_from (look d at) (k.0, k.1.0, k.1.1.0)))
 
   -- a number that may be read fits four bytes
   number_small : (e : Entry) → look d at ≡ e → first-in (number_read_checks e) ≡ None → length (value d at) ≤ 4
-  number_small no_index i h = clash cc
-  number_small no_subindex i h = clash cc
+  number_small no_index i h = cc
+  number_small no_subindex i h = cc
   number_small (present a (Number w s low high)) i h =
       let k = sound.allowed at a (Number w s low high) i in omega (arith, four_at_most w k.0, k.1)
-  number_small (present Ro (Run capacity)) i h = clash cc
-  number_small (present Wo (Run capacity)) i h = clash cc
-  number_small (present Rw (Run capacity)) i h = clash cc
+  number_small (present Ro (Run capacity)) i h = cc
+  number_small (present Wo (Run capacity)) i h = cc
+  number_small (present Rw (Run capacity)) i h = cc
 
   pub number_read : first-in (number_read_checks (look d at)) ≡ None → read_fault (look d at) (value d at) 4 ≡ None
   number_read h =
       let k = clear (number_read_checks (look d at)) h in
       readable_back (look d at) (value d at) 4 (reads_from (look d at) (k.0, k.1.0, k.1.1.0)) (number_small (look d at) refl h)
 
-  pub number_width : (l : Look) → Ok l ≡ look_answer d at → (w : ℕ) (s : Bool) (low high : ℤ) → l.shape ≡ Number w s low high → w ≤ 4
-  number_width l h w s low high q = width_small l.access w s low high (as_seen d at l h l.access (Number w s low high) refl q)
-
 -- For every frame that is read as the command.
 
 module _ (d : Objects) (at : Address) where
   pub each_read_object : (r : Result (Unit {0}) dictionary.Fault) → r ≡ verdict (number_read_checks (look d at))
-      → EachFrame (ReadObject at) (λ node c f. of_dictionary r ≡ by_table node d c f tt)
+      → Tells (ReadObject at) d r tt
+  unfolding Tells
   each_read_object r h node c f is passes =
       ap of_dictionary h
       ∙ (ap (λ a. of_dictionary (verdict (number_read_checks (look d a)))) is.1
       ∙ answered (fault node d c f) _ tt (read_object_finds node d c f passes is.0))
 
   pub each_declared : (n : ℕ) (r : Result (Unit {0}) dictionary.Fault) → r ≡ verdict (length_checks (look d at) n)
-      → EachFrame (InitiateSegmentedWrite at n) (λ node c f. of_dictionary r ≡ by_table node d c f tt)
+      → Tells (InitiateSegmentedWrite at n) d r tt
+  unfolding Tells
   each_declared n r h node c f is passes =
       ap of_dictionary h
       ∙ ((λ i. of_dictionary (verdict (length_checks (look d (is.1 i)) (is.2 i))))
       ∙ answered (fault node d c f) _ tt (initiate_write_finds node d c f passes is.0))
 
-  pub each_staged : (r : Result ℕ dictionary.Fault) → r ≡ answer (first-in (any_read_checks (look d at))) (length (value d at))
-      → EachFrame (InitiateSegmentedRead at) (λ node c f. of_dictionary r ≡ by_table node d c f (length (value d at)))
-  each_staged r h node c f is passes =
-      ap of_dictionary h
-      ∙ (ap (λ a. of_dictionary (answer (first-in (any_read_checks (look d a))) (length (value d at)))) is.1
-      ∙ answered (fault node d c f) _ (length (value d at)) (initiate_read_finds node d c f passes is.0))
+  -- a read into a memory with room for any value
+  module _ (sound : Sound d) (m : Bytes) (long : length m ≡ 4096) where
+    pub read_length : (r : Result ℕ dictionary.Fault) → r ≡ read_answer d at m
+        → Tells (InitiateSegmentedRead at) d r (length (value d at))
+    unfolding Tells
+    read_length r h node c f is passes =
+        ap of_dictionary (h ∙ ap (λ y. answer y (length (value d at))) (roomy d sound at (length m) (omega (arith, long))))
+        ∙ (ap (λ a. of_dictionary (answer (first-in (any_read_checks (look d a))) (length (value d at)))) is.1
+        ∙ answered (fault node d c f) _ (length (value d at)) (initiate_read_finds node d c f passes is.0))
 
-  pub each_staging : (now before IfOk : Bytes) → now ≡ leaves (first-in (any_read_checks (look d at))) IfOk before
-      → EachFrame (InitiateSegmentedRead at) (λ node c f. now ≡ by_fault (fault node d c f) (λ _. before) IfOk)
-  each_staging now before IfOk h node c f is passes =
-      h
-      ∙ (ap (λ a. leaves (first-in (any_read_checks (look d a))) IfOk before) is.1
-      ∙ left (fault node d c f) _ IfOk before (initiate_read_finds node d c f passes is.0))
+    pub read_into : (now : Bytes) → now ≡ memory_after_read d at m
+        → Stages (InitiateSegmentedRead at) d at m now
+    unfolding Stages
+    read_into now h node c f is passes =
+        h
+        ∙ (ap (λ y. leaves y (laid (value d at) m) m) (roomy d sound at (length m) (omega (arith, long)))
+        ∙ (ap (λ a. leaves (first-in (any_read_checks (look d a))) (laid (value d at) m) m) is.1
+        ∙ left (fault node d c f) _ (laid (value d at) m) m (initiate_read_finds node d c f passes is.0)))
 
   -- the checks of a write of this number
   abbrev pub number_checks : ℕ → List (Bool × dictionary.Fault)
   number_checks n = number_write_checks (look d at) (low_bytes (look d at) (four n))
 
   pub each_write_object : (n : ℕ) (r : Result (Unit {0}) dictionary.Fault) → r ≡ verdict (number_checks n)
-      → EachFrame (WriteObject at n) (λ node c f. of_dictionary r ≡ by_table node d c f tt)
+      → Tells (WriteObject at n) d r tt
+  unfolding Tells
   each_write_object n r h node c f is passes =
       ap of_dictionary h
       ∙ ((λ i. of_dictionary (verdict (number_write_checks (look d (is.1 i)) (low_bytes (look d (is.1 i)) (is.3 i)))))
@@ -272,8 +243,8 @@ module _ (d : Objects) (at : Address) where
   applied (Some k) w = refl
 
   pub each_written : (n : ℕ) (after : Objects) → after ≡ leaves (first-in (number_checks n)) (put d at (low_bytes (look d at) (four n))) d
-      → EachFrame (WriteObject at n) (λ node c f. after ≡ apply d (write_of node d c f))
-  unfolding write_of
+      → Writes (WriteObject at n) d after
+  unfolding Writes write_of
   each_written n after h node c f is passes =
       h
       ∙ ((λ i. leaves (first-in (number_write_checks (look d (is.1 i)) (low_bytes (look d (is.1 i)) (is.3 i)))) (put d (is.1 i) (low_bytes (look d (is.1 i)) (is.3 i))) d)
@@ -282,17 +253,26 @@ module _ (d : Objects) (at : Address) where
       ∙ ap (λ w. apply d (by_fault (fault node d c f) (λ _. None) (writes w d c f))) (sym is.0))))
 
   -- a refused write leaves all as it was
-  pub each_refused : (n : ℕ) (e : dictionary.Fault) → Err e ≡ verdict (number_checks n) → EachFrame (WriteObject at n) (λ node c f. d ≡ apply d (write_of node d c f))
+  each_refused : (n : ℕ) (e : dictionary.Fault) → Err e ≡ verdict (number_checks n) → Writes (WriteObject at n) d d
   each_refused n e h = each_written n d (by (first-in (number_checks n)) h)
     where
       by : (y : Option dictionary.Fault) → Err e ≡ done y → d ≡ leaves y (put d at (low_bytes (look d at) (four n))) d
-      by None h = clash cc
+      by None h = cc
       by (Some x) h = refl
+
+  pub absent_leaves : (n : ℕ) (x : dictionary.Fault) → Err x ≡ look_answer d at → Writes (WriteObject at n) d d
+  absent_leaves n x h = each_refused n x (written_absent d at x h (low_bytes (look d at) (four n)))
+
+  pub barred_leaves : (n : ℕ) (l : Look) (x : dictionary.Fault) → Ok l ≡ look_answer d at → Err x ≡ done (access_write_fault l.access) → Writes (WriteObject at n) d d
+  barred_leaves n l x h p = each_refused n x (written_barred d at l h (four n) x p)
+
+  pub run_leaves : (n : ℕ) (l : Look) (capacity : ℕ) → Ok l ≡ look_answer d at → Ok tt ≡ done (access_write_fault l.access) → l.shape ≡ Run capacity → Writes (WriteObject at n) d d
+  run_leaves n l capacity h p q = each_refused n NotNumber (written_run d at l h (four n) p capacity q)
 
   -- the low bytes of the number went to the dictionary
   pub wrote : (n : ℕ) (l : Look) → Ok l ≡ look_answer d at → (w : ℕ) (s : Bool) (low high : ℤ) → l.shape ≡ Number w s low high
       → (bytes : Bytes) → bytes ≡ take w (four n) → (r : Result (Unit {0}) dictionary.Fault) → r ≡ write_answer d at bytes → (after : Objects) → after ≡ after_write d at bytes
-      → EachFrame (WriteObject at n) (λ node c f. of_dictionary r ≡ by_table node d c f tt) × EachFrame (WriteObject at n) (λ node c f. after ≡ apply d (write_of node d c f))
+      → Tells (WriteObject at n) d r tt × Writes (WriteObject at n) d after
   wrote n l h w s low high q bytes k r told-so after left_so =
       let x = written_number d at l h (four n) w s low high q bytes k in (
         each_write_object n r (told-so ∙ ap done x.1),
@@ -300,18 +280,27 @@ module _ (d : Objects) (at : Address) where
       )
 
 -- a readable number is read into four bytes
-refuted : {X : Type 0} (y : Option dictionary.Fault) (content : Bytes) (r : Result Answer dictionary.Fault) (e : dictionary.Fault) → shown r ≡ answer y content → r ≡ Err e → y ≡ None → X
-refuted None content (Ok a) e h was none = clash cc
-refuted None content (Err x) e h was none = clash cc
-refuted (Some x) content r e h was none = clash cc
+refuted : {X : Type 0} (y : Option dictionary.Fault) (content : Bytes) (r : Result Answer dictionary.Fault) (e : dictionary.Fault) → r ≡ answer y content → r ≡ Err e → y ≡ None → X
+refuted None content (Ok a) e h was none = cc
+refuted None content (Err x) e h was none = cc
+refuted (Some x) content r e h was none = cc
 
 passed_none : (y : Option dictionary.Fault) → of_dictionary (done None) ≡ of_dictionary (done y) → y ≡ None
 passed_none None h = refl
-passed_none (Some e) h = clash cc
+passed_none (Some e) h = cc
 
-pub never_refused : {X : Type 0} (d : Objects) → Sound d → (at : Address) (node : ℕ) (c : OpenChain) (f : Frame) → Is f (ReadObject at) → command_check node f ≡ None
-    → of_dictionary (done None) ≡ by_table node d c f tt → (r : Result Answer dictionary.Fault) (e : dictionary.Fault) → shown r ≡ value_answer d at → r ≡ Err e → X
-never_refused d sound at node c f is passes ok r e h was =
+pub never_refused : (d : Objects) → Sound d → (at : Address) → Tells {X = Unit {0}} (ReadObject at) d (Ok tt) tt → (r : Result Answer dictionary.Fault) (e : dictionary.Fault) → r ≡ value_answer d at → r ≡ Err e
+    → (told : Result Bytes Fault) → Answers (ReadObject at) d told
+unfolding Tells Answers
+never_refused d sound at ok r e h was told node c f is passes =
     let none : first-in (number_read_checks (look d at)) ≡ None =
-    passed_none _ (ok ∙ sym (each_read_object d at (verdict (number_read_checks (look d at))) refl node c f is passes)) in
+    passed_none _ (ok node c f is passes ∙ sym (each_read_object d at (verdict (number_read_checks (look d at))) refl node c f is passes)) in
     refuted _ (accepted_data (value_back (value d at))) r e h was (number_read d sound at none)
+
+-- what the check is given for each function
+
+pub ruleset reads_number = (each_read_object, number_absent, number_barred, number_run, number_ok)
+
+pub ruleset writes_number = (each_write_object, absent_leaves, barred_leaves, run_leaves, written_absent, written_barred, written_run)
+
+pub ruleset takes_value = (each_declared, length_absent, length_barred, length_sized, declared_small)

@@ -1,7 +1,6 @@
 -- A segment of a write chain is joined to the bytes staged before it, and the last one brings them to the dictionary.
-use Rattle.std.proofs.Common.{◌≡◌, ℕ, ◌+◌, ◌-◌, ◌≤◌, Bool, true, false, cond, not, ◌&&◌, ◌++◌, length, take, drop, Some, None, Ok, Err, Option, Result, sym, refl, ap, ◌∙◌, subst, append_assoc, arith, length-append}
-use borrow.Rule.Slice.PartMut.{put_mid}
-use Rattle.std.proofs.lemmas.List.{length-take-le, take_at, drop-drop}
+use Rattle.std.proofs.Common.{◌≡◌, ℕ, ◌+◌, ◌-◌, ◌≤◌, Bool, true, false, cond, not, ◌&&◌, ◌++◌, length, take, Some, None, Ok, Err, Option, Result, IfSome, sym, refl, ap, ◌∙◌, subst, length-append}
+use Rattle.std.proofs.lemmas.List.{length-take-le, take_at}
 use Rattle.wire.specs.Framing.{laid}
 use Rattle.dictionary.specs.declared.Address.{Address}
 use Rattle.dictionary.specs.declared.Fault as dictionary
@@ -12,32 +11,33 @@ use Rattle.command.specs.declared.commands.Command.TheVariants.{SegmentWrite}
 use Rattle.command.specs.declared.commands.Part.{Part}
 use Rattle.command.specs.declared.faults.ChainFault.{ChainFault}
 use Rattle.command.specs.declared.faults.Fault.{Fault}
-use Rattle.command.specs.declared.faults.Fault.TheVariants.{Chain, Dictionary}
+use Rattle.command.specs.declared.faults.Fault.TheVariants.{Dictionary}
+use Rattle.command.specs.declared.faults.Fault.TheVariants as fault-of
 use Rattle.command.specs.Answers.{bit, accepted_data, taken_back}
 use Rattle.command.specs.Checks.{Check, Index, Subindex, WriteOfRo, OverLength, UnderLength, OverHigh, UnderLow, OpenChain, closed, writing, joined_of, found}
 use Rattle.command.specs.Commands.{Write, by_fault, apply}
 use Rattle.command.specs.Decoding.{part_values}
 use Rattle.command.specs.Frames.{segment_write, part}
-use Rattle.port.specs.declared.segments.Joining.{Joining}
-use Rattle.port.specs.declared.states.State.{State}
-use Rattle.port.specs.declared.states.State.TheVariants.{Writing}
-use Rattle.port.specs.Chains.{held_by, chain_of}
+use Rattle.port.specs.declared.joinings.Joining.{Joining}
+use Rattle.port.specs.declared.chains.Chain.{Chain}
+use Rattle.port.specs.declared.chains.Direction.TheVariants as direction
+use Rattle.port.specs.Chains.{open_chain, chain_of}
 use Rattle.port.specs.Segments.{Judges}
-use Rattle.port.specs.Serving.{Carried, segment_fault, left}
+use Rattle.port.specs.Serving.{Carried, segment_fault}
 use Rattle.port.proofs.ObjectRows.{raised, same_write, same_length, same_value}
 use Rattle.port.proofs.SegmentRows.{row_stops, row_clear, bit_flip}
 use Rattle.port.proofs.SegmentWrites.{fitted}
-use Rattle.port.proofs.Served.{answered, leaves_by, ended, goes_on, found_none, found_one}
+use Rattle.port.proofs.Served.{answered, leaves_by, found_none, found_one}
 
 -- a segment that its row turns away
-module _ (d : Objects) (s : State) (m : Bytes) (n : ℕ) (toggle last : Bool) (p : Option Part) where
-  pub turned_away : (e : ChainFault) → Judges s toggle last p (Err e) → held_by s ≤ length m → (answer : Result Bytes Fault) → Err (Chain e) ≡ answer
-      → (kept : Bool) (s1 : State) → kept ≡ false → Carried (SegmentWrite n toggle last p) d (chain_of s m) m answer (left kept s1 m) d m
+module _ (d : Objects) (s : Option Chain) (m : Bytes) (n : ℕ) (toggle last : Bool) (p : Option Part) where
+  pub turned_away : (e : ChainFault) → Judges s toggle last p (Err e) → IfSome s (λ c. c.count ≤ length m)
+      → Carried (SegmentWrite n toggle last p) d (chain_of s m) m (Err (fault-of.Chain e)) closed d m
   unfolding Carried Judges
-  turned_away e judged held answer ae kept s1 ye node f is passes =
+  turned_away e judged held node f is passes =
       let c = chain_of s m in
-      let k = found_one (segment_fault node d c f) (Chain e) (judged node d m n f held is passes) in
-      leaves_by node d c m f segment_write (Some k.0) is.0 (row_stops node d c f k.0 k.1) _ _ _ _ (sym ae ∙ ap Err k.2) (ended kept s1 m ye) refl
+      let k = found_one (segment_fault node d c f) (fault-of.Chain e) (judged node d m n f held is passes) in
+      leaves_by node d c m f segment_write (Some k.0) is.0 (row_stops node d c f k.0 k.1) _ _ _ _ (ap Err k.2) refl refl
       (sym (ap (λ (x : Option Check). by_fault x (λ _. m) (laid (joined_of c ++ part f) m)) k.1))
 
 -- The rows behind it, of a segment that they come to only where it is the last.
@@ -58,28 +58,32 @@ as_written e v = same_write e _ _ (same_length e (length v) _ _ (same_value e v)
 
 accepts : (y : Option dictionary.Fault) → Ok tt ≡ answer {X = Unit {0}} y tt → y ≡ None
 accepts None e = refl
-accepts (Some f) e = let z : ◌≡◌ {A = ℕ} 0 1 = cc in absurd (omega arith)
+accepts (Some f) e = cc
 
 refuses : (y : Option dictionary.Fault) (f : dictionary.Fault) → Err f ≡ answer {X = Unit {0}} y tt → y ≡ Some f
-refuses None f e = let z : ◌≡◌ {A = ℕ} 0 1 = cc in absurd (omega arith)
+refuses None f e = cc
 refuses (Some g) f e = cc
 
 joined_length : (m bytes : Bytes) (count : ℕ) → count ≤ length m → length (take count m ++ bytes) ≡ count + length bytes
 joined_length m bytes count held = length-append (take count m) bytes ∙ ap (λ (k : ℕ). k + length bytes) (length-take-le count m held)
 
--- what the copy of a segment's bytes leaves
-pub copied : (m bytes now : Bytes) (count : ℕ) → count + length bytes ≤ length m → now ≡ bytes → put_mid count ((count + length bytes) - count) m now ≡ laid (take count m ++ bytes) m
-copied m bytes now count fits e =
-    let k : (count + length bytes) - count ≡ length bytes = omega arith in
-    (λ i. put_mid count (k i) m (e i))
-    ∙ (ap (λ (l : Bytes). take count m ++ (bytes ++ l)) (drop-drop (length bytes) count m)
-    ∙ (sym (append_assoc (take count m) bytes (drop (count + length bytes) m))
-    ∙ ap (λ (k : ℕ). (take count m ++ bytes) ++ drop k m) (sym (joined_length m bytes count (omega arith)))))
+module _ (d : Objects) (s : Option Chain) (m : Bytes) (n : ℕ) (toggle last : Bool) (p : Option Part) (j : Joining) (judged : Judges s toggle last p (Ok j))
+    (at : Address) (x : Chain) (is-open : s ≡ Some x) (writes : x.direction ≡ direction.Write at) (turn : x.toggle ≡ toggle)
+    (q : Part) (part_is : p ≡ Some q) (held : x.count ≤ length m) where
+  abbrev bytes : Bytes
+  bytes = q.bytes.now
 
-module _ (d : Objects) (s : State) (m : Bytes) (n : ℕ) (toggle last : Bool) (p : Option Part) (j : Joining) (judged : Judges s toggle last p (Ok j))
-    (at : Address) (declared count : ℕ) (state : s ≡ Writing at declared count toggle) (place : ℕ) (bytes : Bytes) (part_is : part_values p ≡ Some (place, bytes)) (held : count ≤ length m) where
+  abbrev declared : ℕ
+  declared = x.declared
+
+  abbrev count : ℕ
+  count = x.count
+
   abbrev c : OpenChain
   c = writing at declared (take count m) (bit toggle)
+
+  chain_is : chain_of s m ≡ c
+  chain_is = ap (λ y. chain_of y m) is-open ∙ (λ i. open_chain (writes i) declared count (turn i) m)
 
   abbrev whole : Bytes
   whole = take count m ++ bytes
@@ -94,10 +98,10 @@ module _ (d : Objects) (s : State) (m : Bytes) (n : ℕ) (toggle last : Bool) (p
       → Carried (SegmentWrite n toggle last p) d (chain_of s m) m answer l objects m1
   unfolding Carried Judges
   done x xe answer l objects m1 ae le oe me =
-      subst (λ z. Carried (SegmentWrite n toggle last p) d (chain_of z m) m answer l objects m1) (sym state) (λ node f is passes.
+      subst (λ z. Carried (SegmentWrite n toggle last p) d z m answer l objects m1) (sym chain_is) (λ node f is passes.
       let clear : segment_fault node d c f ≡ None =
-      ap (λ z. segment_fault node d (chain_of z m) f) (sym state) ∙ found_none _ (judged node d m n f (subst (λ z. held_by z ≤ length m) (sym state) held) is passes) in
-      let b = (fitted f place bytes (sym part_is ∙ is.4)).bytes_are in
+      ap (λ z. segment_fault node d z f) (sym chain_is) ∙ found_none _ (judged node d m n f (subst (λ y. IfSome y (λ c. c.count ≤ length m)) (sym is-open) held) is passes) in
+      let b = (fitted f q.place bytes (sym (ap part_values part_is) ∙ is.4)).bytes_are in
       let l-is = is.3 in
       leaves_by node d c m f segment_write x is.0 (row_clear node d c f clear is.0 ∙ ((λ i. rest_row (sym l-is i) (look d at) (take count m ++ sym b i)) ∙ xe)) _ _ _ _
       (ae ∙ (λ i. answered x (accepted_data (taken_back (is.1 i) (is.2 i)))))
@@ -106,15 +110,15 @@ module _ (d : Objects) (s : State) (m : Bytes) (n : ℕ) (toggle last : Bool) (p
       (me ∙ sym (ap (λ (y : Option Check). by_fault y (λ _. m) (laid (take count m ++ part f) m)) clear ∙ ap (λ z. laid (take count m ++ z) m) (sym b))))
 
   -- more segments come
-  pub goes_on_joined : last ≡ false → (a m1 : Bytes) (kept : Bool) (s1 : State) → a ≡ accepted_data (taken_back n (bit toggle)) → m1 ≡ laid whole m
-      → kept ≡ true → s1 ≡ Writing at declared (count + length bytes) (not toggle) → Carried (SegmentWrite n toggle last p) d (chain_of s m) m (Ok a) (left kept s1 m1) d m1
-  goes_on_joined l a m1 kept s1 ae me ye se =
+  pub goes_on_joined : last ≡ false → (a m1 : Bytes) (l : OpenChain) → a ≡ accepted_data (taken_back n (bit toggle)) → m1 ≡ laid whole m
+      → l ≡ writing at declared (take (count + length bytes) m1) (bit (not toggle)) → Carried (SegmentWrite n toggle last p) d (chain_of s m) m (Ok a) l d m1
+  goes_on_joined l a m1 next ae me se =
       done None (ap (λ b. rest_row b (look d at) whole) l) _ _ _ _ (ap Ok ae)
-      (goes_on kept s1 _ m1 ye se ∙ ((λ i. writing at declared (front m1 me i) (bit_flip toggle toggle refl i)) ∙ sym (ap (λ (b : Bool). cond b closed (writing at declared whole (1 - bit toggle))) l)))
+      (se ∙ ((λ i. writing at declared (front m1 me i) (bit_flip toggle i)) ∙ sym (ap (λ (b : Bool). cond b closed (writing at declared whole (1 - bit toggle))) l)))
       (sym (ap (λ (b : Bool). apply d (cond {A = Option Write} b (Some (at, whole)) None)) l)) me
 
   module _ (l : last ≡ true) (w m1 : Bytes) (me : m1 ≡ laid whole m) (k : ℕ) (ke : k ≡ count + length bytes) (we : w ≡ take k m1)
-      (d1 : Objects) (r : Result (Unit {0}) dictionary.Fault) (re : r ≡ write_answer d at w) (de : d1 ≡ after_write d at w) (kept : Bool) (s1 : State) (ye : kept ≡ false) where
+      (d1 : Objects) (r : Result (Unit {0}) dictionary.Fault) (re : r ≡ write_answer d at w) (de : d1 ≡ after_write d at w) where
     w_is : w ≡ whole
     w_is = we ∙ (ap (λ (i : ℕ). take i m1) ke ∙ front m1 me)
 
@@ -122,19 +126,22 @@ module _ (d : Objects) (s : State) (m : Bytes) (n : ℕ) (toggle last : Bool) (p
     rest_is = ap (λ b. rest_row b (look d at) whole) l
 
     -- the value is written whole
-    pub completes : r ≡ Ok tt → (a : Bytes) → a ≡ accepted_data (taken_back n (bit toggle)) → Carried (SegmentWrite n toggle last p) d (chain_of s m) m (Ok a) (left kept s1 m1) d1 m1
+    pub completes : r ≡ Ok tt → (a : Bytes) → a ≡ accepted_data (taken_back n (bit toggle)) → Carried (SegmentWrite n toggle last p) d (chain_of s m) m (Ok a) closed d1 m1
     completes z a ae =
         let y : write_fault (look d at) whole ≡ None = accepts _ (sym z ∙ (re ∙ ap (write_answer d at) w_is)) in
         done None (rest_is ∙ found_none _ (as_written (look d at) whole ∙ ap raised y)) _ _ _ _ (ap Ok ae)
-        (ended kept s1 m1 ye ∙ sym (ap (λ (b : Bool). cond b closed (writing at declared whole (1 - bit toggle))) l))
+        (sym (ap (λ (b : Bool). cond b closed (writing at declared whole (1 - bit toggle))) l))
         (de ∙ (ap (after_write d at) w_is ∙ (ap (λ (x : Option dictionary.Fault). leaves x (put d at whole) d) y
         ∙ sym (ap (λ (b : Bool). apply d (cond {A = Option Write} b (Some (at, whole)) None)) l)))) me
 
     -- the dictionary refuses it
-    pub is_refused : (f : dictionary.Fault) → r ≡ Err f → (answer : Result Bytes Fault) → Err (Dictionary f) ≡ answer
-        → Carried (SegmentWrite n toggle last p) d (chain_of s m) m answer (left kept s1 m1) d1 m1
-    is_refused f z answer ae =
+    pub is_refused : (f : dictionary.Fault) → r ≡ Err f → Carried (SegmentWrite n toggle last p) d (chain_of s m) m (Err (Dictionary f)) closed d1 m1
+    is_refused f z =
         let y : write_fault (look d at) whole ≡ Some f = refuses _ f (sym z ∙ (re ∙ ap (write_answer d at) w_is)) in
         let k = found_one (rest_row true (look d at) whole) (Dictionary f) (as_written (look d at) whole ∙ ap raised y) in
-        done (Some k.0) (rest_is ∙ k.1) _ _ _ _ (sym ae ∙ ap Err k.2) (ended kept s1 m1 ye)
+        done (Some k.0) (rest_is ∙ k.1) _ _ _ _ (ap Err k.2) refl
         (de ∙ (ap (after_write d at) w_is ∙ ap (λ (x : Option dictionary.Fault). leaves x (put d at whole) d) y)) me
+
+-- what the check is given for each function
+
+pub ruleset joined = (turned_away, goes_on_joined, completes, is_refused)

@@ -1,5 +1,5 @@
 -- The segment row: where the command row passes, it comes next, and the rows behind it come where it passes.
-use Rattle.std.proofs.Common.{◌≡◌, ℕ, ◌-◌, Bool, true, false, cond, not, eqb, List, [], ◌∷◌, ◌++◌, Some, None, Ok, Err, Option, sym, refl, ap, ◌∙◌, arith}
+use Rattle.std.proofs.Common.{◌≡◌, ℕ, ◌-◌, Bool, true, false, cond, not, eqb, List, [], ◌∷◌, ◌++◌, Some, None, Ok, Err, Option, sym, refl, ap, ◌∙◌}
 use Rattle.std.proofs.lemmas.Bool.{eq-eqb}
 use Rattle.wire.specs.Frames.{Frame}
 use Rattle.dictionary.specs.Objects.{Objects}
@@ -11,7 +11,7 @@ use Rattle.command.specs.Checks.{command_row, segment_row, object_row, shape_row
 use Rattle.command.specs.Decoding.{command_check}
 use Rattle.command.specs.Frames.{segment_read, segment_write, verb, read_toggle}
 use Rattle.command.proofs.Rows.{row_passes}
-use Rattle.port.specs.Segments.{in_turn_lem}
+use Rattle.port.specs.Chains.{in_turn_lem}
 use Rattle.port.specs.Serving.{segment_fault}
 
 then_of : (b : Bool) (k l : Check) (r s : Option Check) → cond b (Some k) r ≡ Some l → (r ≡ Some l → s ≡ Some l) → cond b (Some k) s ≡ Some l
@@ -19,11 +19,11 @@ then_of true k l r s e h = e
 then_of false k l r s e h = h e
 
 first_found : (p : Check → Bool) (ks ls : List Check) (k : Check) → first_of p ks ≡ Some k → first_of p (ks ++ ls) ≡ Some k
-first_found p [] ls k e = let z : ◌≡◌ {A = ℕ} 0 1 = cc in absurd (omega arith)
+first_found p [] ls k e = cc
 first_found p (j ∷ ks) ls k e = then_of (p j) j k (first_of p ks) (first_of p (ks ++ ls)) e (first_found p ks ls k)
 
 none_of : (b : Bool) (k : Check) (r s t : Option Check) → cond b (Some k) r ≡ None → (r ≡ None → s ≡ t) → cond b (Some k) s ≡ t
-none_of true k r s t e h = let z : ◌≡◌ {A = ℕ} 0 1 = cc in absurd (omega arith)
+none_of true k r s t e h = cc
 none_of false k r s t e h = h e
 
 first_after : (p : Check → Bool) (ks ls : List Check) → first_of p ks ≡ None → first_of p (ks ++ ls) ≡ first_of p ls
@@ -34,25 +34,22 @@ first_after p (j ∷ ks) ls e = none_of (p j) j (first_of p ks) (first_of p (ks 
 
 pub same_turn : (turn toggle : Bool) (u : Unit {0}) → Ok u ≡ in_turn_lem turn toggle → turn ≡ toggle
 same_turn true true u e = refl
-same_turn true false u e = let z : ◌≡◌ {A = ℕ} 0 1 = cc in absurd (omega arith)
-same_turn false true u e = let z : ◌≡◌ {A = ℕ} 0 1 = cc in absurd (omega arith)
+same_turn true false u e = cc
+same_turn false true u e = cc
 same_turn false false u e = refl
 
 pub other_turn : (turn toggle : Bool) (e : ChainFault) → Err e ≡ in_turn_lem turn toggle → (not (eqb (bit toggle) (bit turn)) ≡ true) × (e ≡ chain.TheVariants.Toggle)
-other_turn true true e h = let z : ◌≡◌ {A = ℕ} 0 1 = cc in absurd (omega arith)
+other_turn true true e h = cc
 other_turn true false e h = (refl, cc)
 other_turn false true e h = (refl, cc)
-other_turn false false e h = let z : ◌≡◌ {A = ℕ} 0 1 = cc in absurd (omega arith)
+other_turn false false e h = cc
 
 pub bits_same : (a b : Bool) → a ≡ b → not (eqb (bit b) (bit a)) ≡ false
 bits_same a b e = ap not (eq-eqb (bit b) (bit a) (sym (ap bit e)))
 
-pub bit_flip : (a b : Bool) → a ≡ b → bit (not b) ≡ 1 - bit a
-bit_flip a b e = ap (λ x. bit (not x)) (sym e) ∙ flipped a
-  where
-    flipped : (a : Bool) → bit (not a) ≡ 1 - bit a
-    flipped true = refl
-    flipped false = refl
+pub bit_flip : (a : Bool) → bit (not a) ≡ 1 - bit a
+bit_flip true = refl
+bit_flip false = refl
 
 abbrev pub behind : List Check
 behind = object_row ++ (shape_row ++ value_row)

@@ -1,5 +1,5 @@
 -- What a frame leaves, by its verb and by the fault that the table finds.
-use Rattle.std.proofs.Common.{◌≡◌, ℕ, Bool, true, false, cond, Some, None, Ok, Err, Option, Result, sym, refl, ap, ◌∙◌, arith}
+use Rattle.std.proofs.Common.{◌≡◌, ℕ, Bool, true, cond, Some, None, Ok, Err, Option, Result, sym, refl, ap, ◌∙◌}
 use Rattle.wire.specs.Frames.{Frame}
 use Rattle.dictionary.specs.Objects.{Bytes, Objects}
 use Rattle.command.specs.declared.faults.Fault.{Fault}
@@ -7,7 +7,7 @@ use Rattle.command.specs.Answers.{accepted_data}
 use Rattle.command.specs.Checks.{Check, OpenChain, closed, fault_of, fault, found}
 use Rattle.command.specs.Commands.{by_fault, brings_back, chain_by, next_chain, writes, write_of, apply}
 use Rattle.command.specs.Frames.{Verb, verb}
-use Rattle.port.specs.declared.states.State.{State}
+use Rattle.port.specs.declared.chains.Chain.{Chain}
 use Rattle.port.specs.Chains.{chain_of}
 use Rattle.port.specs.Serving.{staged_by, frame_done, Leaves, left}
 
@@ -32,26 +32,23 @@ module _ (node : ℕ) (d : Objects) (c : OpenChain) (m : Bytes) (f : Frame) wher
 
 -- a chain that is not kept ends, and one that is kept is that of its record
 
-pub ended : (kept : Bool) (s : State) (m : Bytes) → kept ≡ false → left kept s m ≡ closed
-ended kept s m e = ap (λ (b : Bool). cond b (chain_of s m) closed) e
-
-pub goes_on : (kept : Bool) (s t : State) (m : Bytes) → kept ≡ true → s ≡ t → left kept s m ≡ chain_of t m
-goes_on kept s t m e p = ap (λ (b : Bool). cond b (chain_of s m) closed) e ∙ ap (λ x. chain_of x m) p
+pub goes_on : (kept : Bool) (s : Option Chain) (m : Bytes) → kept ≡ true → left kept s m ≡ chain_of s m
+goes_on kept s m e = ap (λ (b : Bool). cond b (chain_of s m) closed) e
 
 -- what an answer by the table says of the fault
 
 pub none_found : {X : Type 0} (x : Option Check) (a b : X) → Ok a ≡ answered x b → x ≡ None
 none_found None a b e = refl
-none_found (Some k) a b e = let z : ◌≡◌ {A = ℕ} 0 1 = cc in absurd (omega arith)
+none_found (Some k) a b e = cc
 
 pub one_found : {X : Type 0} (x : Option Check) (e : Fault) (b : X) → Err e ≡ answered x b → (k : Check) × (x ≡ Some k) × (e ≡ fault_of k)
-one_found None e b h = let z : ◌≡◌ {A = ℕ} 0 1 = cc in absurd (omega arith)
+one_found None e b h = cc
 one_found (Some k) e b h = (k, refl, cc)
 
 pub found_one : (x : Option Check) (e : Fault) → found x ≡ Some e → (k : Check) × (x ≡ Some k) × (e ≡ fault_of k)
-found_one None e h = let z : ◌≡◌ {A = ℕ} 0 1 = cc in absurd (omega arith)
+found_one None e h = cc
 found_one (Some k) e h = (k, refl, cc)
 
 pub found_none : (x : Option Check) → found x ≡ None → x ≡ None
 found_none None h = refl
-found_none (Some k) h = let z : ◌≡◌ {A = ℕ} 0 1 = cc in absurd (omega arith)
+found_none (Some k) h = cc

@@ -20,10 +20,9 @@ use Rattle.command.specs.Decoding.{Is, Decodes, command_check, frame_of}
 use Rattle.command.specs.Frames.{Verb, read_object, initiate_read, write_object, initiate_write, segment_read, segment_write, unknown}
 use Rattle.command.specs.Frames.{verb_of, verb, of_chain, address, part}
 use Rattle.command.proofs.Rows.{row_refuses}
-use Rattle.port.specs.declared.states.State.{State}
-use Rattle.port.specs.declared.states.State.TheVariants.{Closed}
+use Rattle.port.specs.declared.chains.Chain.{Chain}
 use Rattle.port.specs.Chains.{chain_of}
-use Rattle.port.specs.Objects.{EachFrame, by_table}
+use Rattle.port.specs.Objects.{Answers, Writes}
 use Rattle.port.specs.Serving.{Leaves, Carried, left, leaves_chain, body_done, frame_done, staged_by, segment_fault}
 use Rattle.port.proofs.SegmentRows.{row_before}
 use Rattle.port.proofs.Served.{answered, leaves_by, goes_on, found_one}
@@ -34,29 +33,29 @@ no_write : (x : Option Check) → ◌≡◌ {A = Option Write} None (by_fault x 
 no_write None = refl
 no_write (Some k) = refl
 
-module _ (d : Objects) (s : State) (m : Bytes) (at : Address) (answer : Result Bytes Fault) (kept : Bool) where
+module _ (d : Objects) (s : Option Chain) (m : Bytes) (at : Address) (answer : Result Bytes Fault) (kept : Bool) where
   pub read_leaves : (command : Command) → command ≡ ReadObject at → kept ≡ leaves_chain command
-      → EachFrame (ReadObject at) (λ node c f. answer ≡ by_table node d c f (accepted_data (brings_back (verb f) d c f)))
+      → Answers (ReadObject at) d answer
       → Carried command d (chain_of s m) m answer (left kept s m) d m
-  unfolding Carried
+  unfolding Carried Answers
   read_leaves command ce ye told =
       subst (λ x. Carried x d (chain_of s m) m answer (left kept s m) d m) (sym ce) (λ node f is passes.
       let c = chain_of s m in
       leaves_by node d c m f read_object (fault node d c f) is.0 refl _ _ _ _
       (told node c f is passes ∙ ap (λ w. answered (fault node d c f) (accepted_data (brings_back w d c f))) is.0)
-      (goes_on kept s s m (ye ∙ ap leaves_chain ce) refl) (ap (apply d) (no_write (fault node d c f))) refl)
+      (goes_on kept s m (ye ∙ ap leaves_chain ce)) (ap (apply d) (no_write (fault node d c f))) refl)
 
   pub write_leaves : (command : Command) (n : ℕ) (d1 : Objects) → command ≡ WriteObject at n → kept ≡ leaves_chain command
-      → EachFrame (WriteObject at n) (λ node c f. answer ≡ by_table node d c f (accepted_data (brings_back (verb f) d c f)))
-      → EachFrame (WriteObject at n) (λ node c f. d1 ≡ apply d (write_of node d c f))
+      → Answers (WriteObject at n) d answer
+      → Writes (WriteObject at n) d d1
       → Carried command d (chain_of s m) m answer (left kept s m) d1 m
-  unfolding Carried write_of
+  unfolding Carried Answers Writes write_of
   write_leaves command n d1 ce ye told after =
       subst (λ x. Carried x d (chain_of s m) m answer (left kept s m) d1 m) (sym ce) (λ node f is passes.
       let c = chain_of s m in
       leaves_by node d c m f write_object (fault node d c f) is.0 refl _ _ _ _
       (told node c f is passes ∙ ap (λ w. answered (fault node d c f) (accepted_data (brings_back w d c f))) is.0)
-      (goes_on kept s s m (ye ∙ ap leaves_chain ce) refl)
+      (goes_on kept s m (ye ∙ ap leaves_chain ce))
       (after node c f is passes ∙ ap (λ w. apply d (by_fault (fault node d c f) (λ _. None) (writes w d c f))) is.0) refl)
 
 -- The guard.
@@ -71,7 +70,7 @@ kept_is f (InitiateSegmentedWrite at n) is = ap (λ w. not (of_chain w)) is.0
 kept_is f (SegmentRead toggle) is = ap (λ w. not (of_chain w)) is.0
 kept_is f (SegmentWrite n toggle last p) is = ap (λ w. not (of_chain w)) is.0
 
-dropped : (kept : Bool) (s : State) (m : Bytes) → chain_of (cond kept s Closed) m ≡ left kept s m
+dropped : (kept : Bool) (s : Option Chain) (m : Bytes) → chain_of (cond kept s None) m ≡ left kept s m
 dropped true s m = refl
 dropped false s m = refl
 
@@ -84,7 +83,7 @@ ends_chain segment_read k d c f = refl
 ends_chain segment_write k d c f = refl
 ends_chain unknown k d c f = refl
 
-module _ (node : ℕ) (d : Objects) (s : State) (m bytes b : Bytes) (be : b ≡ bytes) where
+module _ (node : ℕ) (d : Objects) (s : Option Chain) (m bytes b : Bytes) (be : b ≡ bytes) where
   abbrev c : OpenChain
   c = chain_of s m
 
@@ -110,7 +109,7 @@ module _ (node : ℕ) (d : Objects) (s : State) (m bytes b : Bytes) (be : b ≡ 
 
     -- a frame that the command row turns away
     pub no_command : (e : CommandFault) → Decodes node (frame_of f) (Err e) → (answer : Result Bytes Fault) → Err (OfCommand e) ≡ answer
-        → (kept : Bool) (s1 : State) → kept ≡ not (of_chain (verb_of f.opcode)) → s1 ≡ cond kept s Closed
+        → (kept : Bool) (s1 : Option Chain) → kept ≡ not (of_chain (verb_of f.opcode)) → s1 ≡ cond kept s None
         → Leaves (body_done node d c m (checked_frame bytes)) answer (chain_of s1 m) d m
     unfolding verb
     no_command e g answer ae kept s1 ye se =
@@ -122,10 +121,14 @@ module _ (node : ℕ) (d : Objects) (s : State) (m bytes b : Bytes) (be : b ≡ 
         refl (unstaged (verb (frame_of f)) k.0 x (row_before node d c (frame_of f) k.0 k.1)))
 
     -- a command that was carried out
-    pub finishes : (command : Command) → Decodes node (frame_of f) (Ok command) → (answer : Result Bytes Fault) (kept : Bool) (s1 s2 : State) (d1 : Objects) (m1 : Bytes)
-        → Carried command d c m answer (left kept s1 m1) d1 m1 → s2 ≡ cond kept s1 Closed
+    pub finishes : (command : Command) → Decodes node (frame_of f) (Ok command) → (answer : Result Bytes Fault) (kept : Bool) (s1 s2 : Option Chain) (d1 : Objects) (m1 : Bytes)
+        → Carried command d c m answer (left kept s1 m1) d1 m1 → s2 ≡ cond kept s1 None
         → Leaves (body_done node d c m (checked_frame bytes)) answer (chain_of s2 m1) d1 m1
     unfolding Carried
     finishes command g answer kept s1 s2 d1 m1 carried se =
         as_frame answer (chain_of s2 m1) d1 m1
         (subst (λ l. Leaves (frame_done node d c m (frame_of f)) answer l d1 m1) (sym (ap (λ z. chain_of z m1) se ∙ dropped kept s1 m1)) (carried node (frame_of f) g.1 g.0))
+
+-- what the check is given for each function
+
+pub ruleset on_objects = (read_leaves, write_leaves)

@@ -1,5 +1,5 @@
 -- What a taken byte leaves, from what the receiver's step and the reply leave.
-use Rattle.std.proofs.Common.{◌≡◌, ℕ, ◌-◌, ◌≤◌, length, take, drop, Some, None, Ok, Option, sym, refl, ap, ◌∙◌, arith, length-append}
+use Rattle.std.proofs.Common.{◌≡◌, ℕ, ◌-◌, length, take, drop, Some, None, Ok, Option, sym, refl, ap, ◌∙◌, arith}
 use Rattle.std.proofs.lemmas.List.{take_at}
 use Rattle.wire.specs.declared.receiving.Phase.{Phase}
 use Rattle.wire.specs.Checking.{checked_frame}
@@ -11,36 +11,21 @@ use Rattle.port.specs.declared.ports.Reply.{Reply}
 use Rattle.port.specs.Ports.{Board, call_result, received, replied, served, taken_call, Replies}
 use Rattle.port.specs.Serving.{body_done}
 
-served_none : (node : ℕ) (b : Board) (o : Option Bytes) → None ≡ size o → served node b o ≡ call_result (Ok None) b
-served_none node b None e = refl
-served_none node b (Some body) e = let z : ◌≡◌ {A = ℕ} 0 1 = cc in absurd (omega arith)
-
--- no body is complete
-pub quiet_call : (node : ℕ) (b : Board) (s : Step) (phase : Phase) (count : ℕ) (frame : Bytes) → Took s None phase count b.frame frame
-    → call_result (Ok None) (record { phase = phase; count = count; chain = b.chain; objects = b.objects; frame = frame; staging = b.staging; answer = b.answer }) ≡ taken_call node b s
-quiet_call node b s phase count frame t =
-    let same : call_result (Ok None) (record { phase = phase; count = count; chain = b.chain; objects = b.objects; frame = frame; staging = b.staging; answer = b.answer })
-    ≡ call_result (Ok None) (received b s)
-    = λ i. call_result (Ok None) (record { phase = t.moved i; count = t.counted i; chain = b.chain; objects = b.objects; frame = t.laid_front i; staging = b.staging; answer = b.answer }) in
-    same ∙ sym (served_none node (received b s) s.body t.tells)
-
 -- the body that a step completes stands at the front of the memory
 pub record BodyAt (o : Option Bytes) (n : ℕ) (memory : Bytes) : Type 0 where
   pub body : Bytes
   pub is : o ≡ Some body
   pub there : take n memory ≡ body
-  pub inside : n ≤ length memory
 
 body_at : (o : Option Bytes) (g before memory : Bytes) (n : ℕ) → Some n ≡ size o
     → memory ≡ laid (elim o as (λ _. Bytes) [ Some body ↦ body | None ↦ g ]) before → BodyAt o n memory
-body_at None g before memory n e l = let z : ◌≡◌ {A = ℕ} 0 1 = cc in absurd (omega arith)
+body_at None g before memory n e l = cc
 body_at (Some body) g before memory n e l =
     let long : n ≡ length body = cc in
     record {
       body = body;
       is = refl;
       there = ap (λ k. take k memory) long ∙ ap (take (length body)) l ∙ take_at body (drop (length body) before) (length body) refl;
-      inside = omega (arith, long, ap length l, length-append body (drop (length body) before));
     }
 
 pub completed_at : (s : Step) (n : ℕ) (phase : Phase) (count : ℕ) (before memory : Bytes) → Took s (Some n) phase count before memory → BodyAt s.body n memory

@@ -1,5 +1,5 @@
 -- What a byte call answers and leaves. Assumes nothing.
-use Rattle.std.specs.Prelude.{◌≡◌, ℕ, Bool, cond, ◌&&◌, length, take, Some, None, Ok, Err, Option, Result, nat_le, nat_lt}
+use Rattle.std.specs.Prelude.{◌≡◌, ℕ, Bool, cond, ◌&&◌, codes, length, take, Some, None, Ok, Err, Option, Result, nat_le, nat_lt}
 use Rattle.wire.specs.declared.receiving.Phase.{Phase}
 use Rattle.wire.specs.declared.receiving.Phase.TheVariants.{Hunting}
 use Rattle.wire.specs.Checking.{checked_frame}
@@ -16,8 +16,7 @@ use Rattle.port.specs.declared.ports.Port.{Port}
 use Rattle.port.specs.declared.ports.Refusal.{Refusal}
 use Rattle.port.specs.declared.ports.Refusal.TheVariants.{FrameMemory, StagingMemory, AnswerMemory}
 use Rattle.port.specs.declared.ports.Reply.{Reply}
-use Rattle.port.specs.declared.states.State.{State}
-use Rattle.port.specs.declared.states.State.TheVariants.{Closed}
+use Rattle.port.specs.declared.chains.Chain.{Chain}
 use Rattle.port.specs.Chains.{chain_of}
 use Rattle.port.specs.Serving.{Done, body_done}
 
@@ -30,18 +29,28 @@ refusal_number FrameMemory = 2
 refusal_number StagingMemory = 3
 refusal_number AnswerMemory = 4
 
+-- what each refusal says
+abbrev pub opening_text : OpeningRefusal → Bytes
+opening_text Node = codes "the node is not from 1 to 127"
+
+abbrev pub refusal_text : Refusal → Bytes
+refusal_text FrameMemory = codes "the frame memory is shorter than 514 bytes"
+refusal_text StagingMemory = codes "the staging memory is shorter than 4096 bytes"
+refusal_text AnswerMemory = codes "the answer memory is shorter than 538 bytes"
+
 -- the data of an answer: a fault is answered by its code
 abbrev pub answer_of : Result Bytes Fault → Bytes
 answer_of (Ok bytes) = bytes
 answer_of (Err e) = refused_data e
 
-abbrev pub fault_in : Result Bytes Fault → Option Fault
-fault_in (Ok bytes) = None
-fault_in (Err e) = Some e
+-- carried out, or the fault that turned it away
+abbrev pub outcome_of : Result Bytes Fault → Result (Unit {0}) Fault
+outcome_of (Ok bytes) = Ok tt
+outcome_of (Err e) = Err e
 
 -- what a call tells of an answer
 abbrev pub reply_of : Result Bytes Fault → Reply
-reply_of r = record { length = length (answer_frame (answer_of r)); fault = fault_in r }
+reply_of r = record { length = length (answer_frame (answer_of r)); outcome = outcome_of r }
 
 -- a body was answered and carried out as this: the reply, and what is left in the answer memory
 pub record Replies (o : Done) (r : Reply) (before : Bytes) (chain : OpenChain) (objects : Objects) (staging after : Bytes) : Type 0 where
@@ -63,7 +72,7 @@ pub record Board : Type 0 where
 
 abbrev pub board : Port → Objects → Bytes → Bytes → Bytes → Board
 board p d f m a =
-    record { phase = p.receiver.phase; count = p.receiver.gathered; chain = chain_of p.chain.state m; objects = d; frame = f; staging = m; answer = a }
+    record { phase = p.receiver.phase; count = p.receiver.gathered; chain = chain_of p.chain m; objects = d; frame = f; staging = m; answer = a }
 
 pub record Called : Type 0 where
   pub result : Result (Option Reply) Refusal
@@ -110,8 +119,8 @@ byte_of node b byte =
     taken_call node b (step b.phase (take b.count b.frame) byte))))
 
 -- a port by its node, its receiver and its chain
-abbrev pub shown_port : Result Port OpeningRefusal → Result (ℕ × Phase × ℕ × State) OpeningRefusal
-shown_port (Ok p) = Ok (p.node, p.receiver.phase, p.receiver.gathered, p.chain.state)
+abbrev pub shown_port : Result Port OpeningRefusal → Result (ℕ × Phase × ℕ × Option Chain) OpeningRefusal
+shown_port (Ok p) = Ok (p.node, p.receiver.phase, p.receiver.gathered, p.chain)
 shown_port (Err e) = Err e
 
 -- an own node is from 1 to 127
@@ -119,5 +128,5 @@ abbrev pub own_node : ℕ → Bool
 own_node node = nat_le 1 node && nat_le node 127
 
 -- a new port hunts, with no chain open
-abbrev pub opened_port : ℕ → Result (ℕ × Phase × ℕ × State) OpeningRefusal
-opened_port node = cond (own_node node) (Ok (node, Hunting, 0, Closed)) (Err Node)
+abbrev pub opened_port : ℕ → Result (ℕ × Phase × ℕ × Option Chain) OpeningRefusal
+opened_port node = cond (own_node node) (Ok (node, Hunting, 0, None)) (Err Node)

@@ -19,7 +19,7 @@ use Rattle.port.specs.Ports.{refusal_number}
 -- port's receiver and chain are what they say
 abbrev pub LedToPort : Objects → List Event → Port → Objects → Bytes → Bytes → Type 0
 LedToPort d0 events p d frame staging =
-    LedTo p.node d0 events p.receiver.phase (take p.receiver.gathered frame) (chain_of p.chain.state staging) d
+    LedTo p.node d0 events p.receiver.phase (take p.receiver.gathered frame) (chain_of p.chain staging) d
 
 -- what a byte call brought: an answer is the front of the answer memory
 abbrev pub brought_by : Result (Option Reply) Refusal → Bytes → Brought
@@ -57,9 +57,9 @@ call_of (Byte b f m a) frame staging answer = calls.byte b (min f frame) (min m 
 call_of Silence frame staging answer = calls.silence
 
 -- whatever events led to p, with this call they lead to p1
-pub record CallKeepsLaw (p p1 : Port) (d d1 : Objects) (frame frame1 staging staging1 : Bytes) (answer : ℕ) (answer1 : Bytes) (q : Request) (r : Result (Option Reply) Refusal) : Type 0 where
+pub record CallKeepsLaw (p p1 : Port) (d d1 : Objects) (frame frame1 staging staging1 answer1 : Bytes) (q : Request) (r : Result (Option Reply) Refusal) : Type 0 where
   pub leads : (d0 : Objects) (events : List Event) → LedToPort d0 events p d frame staging
-      → LedToPort d0 (event (call_of q (length frame) (length staging) answer) (brought_by r answer1) ∷ events) p1 d1 frame1 staging1
+      → LedToPort d0 (event (call_of q (length frame) (length staging) (length answer1)) (brought_by r answer1) ∷ events) p1 d1 frame1 staging1
   pub own : p1.node ≡ p.node
 
 -- the event of a step

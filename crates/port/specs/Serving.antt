@@ -4,18 +4,18 @@ use Rattle.wire.specs.declared.faults.Fault as wire
 use Rattle.wire.specs.Frames.{Frame}
 use Rattle.wire.specs.Framing.{laid}
 use Rattle.dictionary.specs.Objects.{Bytes, Objects, value}
-use Rattle.command.specs.declared.answers.Answer.{Answer}
 use Rattle.command.specs.declared.commands.Command.{Command}
 use Rattle.command.specs.declared.commands.Command.TheVariants.{ReadObject, InitiateSegmentedRead, WriteObject, InitiateSegmentedWrite, SegmentRead, SegmentWrite}
 use Rattle.command.specs.declared.faults.Fault.{Fault}
 use Rattle.command.specs.declared.faults.Fault.TheVariants.{Wire}
-use Rattle.command.specs.Answers.{answer_data, accepted_data}
+use Rattle.command.specs.Answers.{accepted_data}
 use Rattle.command.specs.Checks.{Check, OpenChain, closed, fault_of, checks, command_row, segment_row, first_of, fault, joined_of}
 use Rattle.command.specs.Commands.{by_fault, brings_back, next_chain, write_of, apply}
 use Rattle.command.specs.Decoding.{Is, command_check}
 use Rattle.command.specs.Frames.{Verb, read_object, initiate_read, write_object, initiate_write, segment_read, segment_write, unknown}
 use Rattle.command.specs.Frames.{verb, address, part}
-use Rattle.port.specs.declared.states.State.{State}
+use Rattle.port.specs.declared.chains.Chain.{Chain}
+use Rattle.port.specs.declared.chains.Taken.{Taken}
 use Rattle.port.specs.Chains.{chain_of}
 
 pub record Done : Type 0 where
@@ -53,10 +53,14 @@ abbrev pub body_done : ℕ → Objects → OpenChain → Bytes → Result Frame 
 body_done node d c m (Ok f) = frame_done node d c m f
 body_done node d c m (Err e) = record { answer = Err (Wire e); chain = c; objects = d; staging = m }
 
--- an answer by its data
-abbrev pub shown_answer : Result Answer Fault → Result Bytes Fault
-shown_answer (Ok a) = Ok (answer_data a)
-shown_answer (Err e) = Err e
+-- what a command of a chain answers, and the chain that it leaves: none where it is turned away
+abbrev pub shown_taken : Result Taken Fault → Result Bytes Fault
+shown_taken (Ok t) = Ok t.answer
+shown_taken (Err e) = Err e
+
+abbrev pub next_of : Result Taken Fault → Option Chain
+next_of (Ok t) = t.next
+next_of (Err e) = None
 
 -- a call answered and left just this
 pub record Leaves (o : Done) (answer : Result Bytes Fault) (chain : OpenChain) (objects : Objects) (staging : Bytes) : Type 0 where
@@ -71,7 +75,7 @@ Carried command d c m answer chain objects staging =
     (node : ℕ) (f : Frame) → Is f command → command_check node f ≡ None → Leaves (frame_done node d c m f) answer chain objects staging
 
 -- the chain that is left: it ends unless it is kept
-abbrev pub left : Bool → State → Bytes → OpenChain
+abbrev pub left : Bool → Option Chain → Bytes → OpenChain
 left kept s m = cond kept (chain_of s m) closed
 
 -- ReadObject and WriteObject leave the open chain as it is

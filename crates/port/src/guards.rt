@@ -1,37 +1,39 @@
 // A segment that any check turns away ends its chain.
-ghost use Rattle.std.specs.Prelude.{◌≡◌, true, if◌then◌else◌};
-ghost use Rattle.port.specs.declared.states.State.TheVariants.{Closed};
+ghost use Rattle.std.specs.Prelude.{◌≡◌, true, OnOk, OnErr, if◌then◌else◌};
+ghost use Rattle.port.specs.Serving.{shown_taken, next_of};
 
-use crate::chains::Chain;
-use crate::states::State;
+use crate::chains::{Chain, Taken};
+use command::{Answer, Fault};
 
 // Holds the chain record while a frame is looked at; its end closes the chain unless the chain was kept.
+// The project names this form: a flag says that the chain was kept, and the end closes it otherwise.
 pub struct Guard<'a> {
-    pub chain: &'a mut Chain,
+    pub chain: &'a mut Option<Chain>,
     pub kept: bool,
 }
 
 impl Drop for Guard<'_> {
     fn drop(self)
-        ensures { self.exit.0.now.state ≡ (if self.entry.kept then self.entry.chain.now.state else Closed) }
+        ensures { self.exit.0.now ≡ (if self.entry.kept then self.entry.chain.now else None) }
     {
         if !self.kept {
-            *self.chain = Chain {
-                state: State::Closed,
-            };
+            *self.chain = None;
         }
         let Guard { chain: _, kept: _ } = self;
     }
 }
 
 impl Guard<'_> {
-    // The frame is taken, and the chain goes on as `next`.
-    pub(crate) fn keep(&mut self, next: Chain)
-        ensures chain { self.new.chain.now ≡ next }
-        ensures kept { self.new.kept ≡ true }
+    // A command that is taken leaves its chain; where it is turned away, the guard ends the chain.
+    pub(crate) fn leave(&mut self, done: Result<Taken, Fault>) -> Result<Answer, Fault>
+        ensures answer { result ≡ shown_taken done }
+        ensures taken { OnOk done ((self.new.kept ≡ true) × (self.new.chain.now ≡ next_of done)) }
+        ensures refused { OnErr done ((self.new.kept ≡ self.old.kept) × (self.new.chain.now ≡ self.old.chain.now)) }
         ensures same { self.new.chain.ghost_name ≡ self.old.chain.ghost_name }
     {
+        let Taken { answer, next } = done?;
         *self.chain = next;
         self.kept = true;
+        Ok(answer)
     }
 }

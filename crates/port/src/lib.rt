@@ -3,6 +3,7 @@
 
 mod chains;
 mod guards;
+mod joinings;
 mod objects;
 mod ports;
 mod replies;
@@ -10,8 +11,10 @@ mod requests;
 mod runs;
 mod segments;
 mod serving;
-mod states;
 
+pub use chains::LONGEST_VALUE;
+pub use command::LONGEST_ANSWER;
 pub use ports::{OpeningRefusal, Port, Refusal, Reply};
-pub use requests::{LONGEST_ANSWER, Request, Step};
+pub use requests::{Request, Step};
 pub use runs::run;
+pub use wire::LONGEST_BODY;

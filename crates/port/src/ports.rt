@@ -11,7 +11,7 @@ mod calls;
 pub struct Port {
     node: u8,
     receiver: Receiver,
-    chain: Chain,
+    chain: Option<Chain>,
     ghost first: { 1 ≤ node },
     ghost last: { node ≤ 127 },
 }
@@ -20,21 +20,21 @@ pub struct Port {
 #[derive(Clone, Copy, Debug, PartialEq, Eq)]
 pub enum OpeningRefusal {
     // The own node is not from 1 to 127.
-    Node,
+    Node = 1,
 }
 
 // Why a byte call was not taken: a memory that it was lent is too short.
 #[derive(Clone, Copy, Debug, PartialEq, Eq)]
 pub enum Refusal {
-    FrameMemory,
-    StagingMemory,
-    AnswerMemory,
+    FrameMemory = 2,
+    StagingMemory = 3,
+    AnswerMemory = 4,
 }
 
-// An answer that stands at the front of the answer memory.
-#[derive(Clone, Copy)]
+// An answer that stands at the front of the answer memory, which is the caller's.
+#[derive(Clone, Copy, Debug, PartialEq, Eq)]
 pub struct Reply {
     pub length: usize,
-    // None where the frame was carried out, else the fault that turned it away.
-    pub fault: Option<Fault>,
+    // Whether the frame was carried out, or the fault that turned it away.
+    pub outcome: Result<(), Fault>,
 }

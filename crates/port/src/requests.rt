@@ -1,11 +1,9 @@
 // Calls as values, with room for what each brings.
 use crate::ports::{Refusal, Reply};
-
-// The longest answer on the cable.
-pub const LONGEST_ANSWER: usize = 538;
+use command::LONGEST_ANSWER;
 
 // A call: a byte with how much of each memory is granted to it, or a silence.
-#[derive(Clone, Copy)]
+#[derive(Clone, Copy, Debug, PartialEq, Eq)]
 pub enum Request {
     Byte {
         byte: u8,
@@ -16,8 +14,8 @@ pub enum Request {
     Silence,
 }
 
-// A call of a run, what it told, and its answer memory.
-#[derive(Clone, Copy)]
+// A call of a run, what it told, and its answer memory: an array, since there is no heap.
+#[derive(Clone, Copy, Debug, PartialEq, Eq)]
 pub struct Step {
     pub request: Request,
     pub told: Result<Option<Reply>, Refusal>,

@@ -1,212 +1,149 @@
 // The commands on a chain: its record, the staging memory and the dictionary.
-ghost use Rattle.std.specs.Prelude.{◌≡◌, ◌+◌, ◌≤◌, false, ◌++◌, length, take, IfOk};
+ghost use Rattle.std.specs.Prelude.{◌≡◌, take, IfOk};
 ghost use Rattle.command.specs.declared.commands.Command.TheVariants.{InitiateSegmentedRead, InitiateSegmentedWrite, SegmentRead, SegmentWrite};
-ghost use Rattle.command.specs.Answers.{answer_data, bit, accepted_data, segment_back};
+ghost use Rattle.command.specs.Answers.{bit, accepted_data, segment_back};
+ghost use Rattle.command.specs.Checks.{OpenChain};
 ghost use Rattle.dictionary.specs.Objects.{Bytes, Objects};
 ghost use Rattle.port.specs.Chains.{chain_of};
-ghost use Rattle.port.specs.Segments.{Judges, Joins, in_turn_lem};
-ghost use Rattle.port.specs.Serving.{Carried, left, shown_answer};
-ghost use Rattle.wire.specs.Framing.{laid};
+ghost use Rattle.port.specs.Segments.{Judges, Joins};
+ghost use Rattle.port.specs.Serving.{Carried, shown_taken, next_of};
 
-use crate::chains::Chain;
-use crate::guards::Guard;
+use crate::chains::{Chain, Direction, LONGEST_VALUE, Taken};
+use crate::joinings::Joining;
 use crate::objects::{stage, takes_length};
-use crate::states::State;
-use command::{Answer, ChainFault, Fault, Part};
+use command::{Answer, ChainFault, Fault, LONGEST_PART, Part};
 use dictionary::{Address, Dictionary};
 
-// The most bytes of a value that one answer brings.
-const MOST: usize = 255;
-
 // The whole value is copied into the staging memory, and the chain is open while bytes remain.
+#[tactic(auto, using(crate::proofs::SegmentInitiates::begins_read))]
 pub(crate) fn initiate_read<D: Dictionary>(
-    guard: &mut Guard<'_>,
     dict: &D,
     at: Address,
-    staging: &mut [u8],
-) -> Result<Answer, Fault>
-    requires { (4096 ≤ length staging.old) × (guard.old.kept ≡ false) }
-    ensures leaves { Carried (InitiateSegmentedRead at) (D.Dictionary.meaning dict.now) (chain_of guard.old.chain.now.state staging.old) staging.old (shown_answer result) (left guard.new.kept guard.new.chain.now.state staging.new) (D.Dictionary.meaning dict.now) staging.new }
-    ensures same { guard.new.chain.ghost_name ≡ guard.old.chain.ghost_name }
+    staging: &mut [u8; LONGEST_VALUE],
+) -> Result<Taken, Fault>
+    ensures { (c : OpenChain) → Carried (InitiateSegmentedRead at) (D.Dictionary.meaning dict.now) c staging.old (shown_taken result) (chain_of (next_of result) staging.new) (D.Dictionary.meaning dict.now) staging.new }
 {
     let len = stage(dict, at, staging)?;
     let answer = Answer::first_segment(&staging[0..len]);
-    if MOST < len {
-        guard.keep(Chain {
-            state: State::Reading {
-                declared: len,
-                count: MOST,
-                toggle: false,
-            },
-        });
+    if len <= LONGEST_PART {
+        return Ok(Taken { answer, next: None });
     }
-    Ok(answer)
+    let next = Chain {
+        direction: Direction::Read,
+        declared: len,
+        count: LONGEST_PART,
+        toggle: false,
+    };
+    Ok(Taken {
+        answer,
+        next: Some(next),
+    })
 }
 
 // A write chain begins if the object takes a value of the declared length.
+#[tactic(auto, using(crate::proofs::SegmentInitiates::begins_write))]
 pub(crate) fn initiate_write<D: Dictionary>(
-    guard: &mut Guard<'_>,
     dict: &D,
     at: Address,
     declared: u32,
-) -> Result<Answer, Fault>
-    requires { guard.old.kept ≡ false }
-    ensures leaves { (m : Bytes) → Carried (InitiateSegmentedWrite at declared) (D.Dictionary.meaning dict.now) (chain_of guard.old.chain.now.state m) m (shown_answer result) (left guard.new.kept guard.new.chain.now.state m) (D.Dictionary.meaning dict.now) m }
-    ensures same { guard.new.chain.ghost_name ≡ guard.old.chain.ghost_name }
+) -> Result<Taken, Fault>
+    ensures { (c : OpenChain) (m : Bytes) → Carried (InitiateSegmentedWrite at declared) (D.Dictionary.meaning dict.now) c m (shown_taken result) (chain_of (next_of result) m) (D.Dictionary.meaning dict.now) m }
 {
     takes_length(dict, at, declared)?;
-    guard.keep(Chain {
-        state: State::Writing {
-            at,
-            declared: declared as usize,
-            count: 0,
-            toggle: false,
-        },
-    });
-    Ok(Answer::accepted())
+    let next = Chain {
+        direction: Direction::Write { at },
+        declared: declared as usize,
+        count: 0,
+        toggle: false,
+    };
+    Ok(Taken {
+        answer: Answer::accepted(),
+        next: Some(next),
+    })
 }
 
-// Whether it is this toggle's turn: a repeated segment has the toggle of the one before it.
-fn in_turn(turn: bool, toggle: bool) -> Result<(), ChainFault>
-    ensures { result ≡ in_turn_lem turn toggle }
+// The next bytes of a read chain's value.
+fn next_segment(chain: &Chain, staging: &[u8; LONGEST_VALUE]) -> Answer
+    ensures { result ≡ accepted_data (segment_back (take chain.now.declared staging.now) chain.now.count (bit chain.now.toggle)) }
 {
-    if turn != toggle {
-        return Err(ChainFault::Toggle);
-    }
-    Ok(())
+    Answer::segment(&staging[0..chain.declared], chain.count, chain.toggle)
 }
 
-// The segment that begins where `count` bytes of the staged value were sent.
-fn staged_segment(staging: &[u8], declared: usize, count: usize, toggle: bool) -> Answer
-    requires { declared ≤ length staging.now }
-    ensures { answer_data result ≡ accepted_data (segment_back (take declared staging.now) count (bit toggle)) }
-{
-    Answer::segment(&staging[0..declared], count, toggle)
-}
-
-// The next bytes of the value that was staged when the chain began.
+// A segment of a read chain: its bytes come from the value that was staged when the chain began.
+#[tactic(auto, using(crate::proofs::SegmentReads::reads_on))]
 pub(crate) fn segment_read(
-    guard: &mut Guard<'_>,
+    chain: Option<Chain>,
     toggle: bool,
-    staging: &[u8],
-) -> Result<Answer, Fault>
-    requires { (4096 ≤ length staging.now) × (guard.old.kept ≡ false) }
-    ensures leaves { (d : Objects) → Carried (SegmentRead toggle) d (chain_of guard.old.chain.now.state staging.now) staging.now (shown_answer result) (left guard.new.kept guard.new.chain.now.state staging.now) d staging.now }
-    ensures same { guard.new.chain.ghost_name ≡ guard.old.chain.ghost_name }
+    staging: &[u8; LONGEST_VALUE],
+) -> Result<Taken, Fault>
+    ensures { (d : Objects) → Carried (SegmentRead toggle) d (chain_of chain staging.now) staging.now (shown_taken result) (chain_of (next_of result) staging.now) d staging.now }
 {
-    let State::Reading {
-        declared,
-        count,
-        toggle: turn,
-    } = guard.chain.state
-    else {
+    let chain = chain.ok_or(ChainFault::NoChain)?;
+    let Direction::Read = chain.direction else {
         return Err(Fault::Chain(ChainFault::NoChain));
     };
-    in_turn(turn, toggle)?;
-    let answer = staged_segment(staging, declared, count, toggle);
-    let sent = count + MOST;
-    if sent < declared {
-        guard.keep(Chain {
-            state: State::Reading {
-                declared,
-                count: sent,
-                toggle: !toggle,
-            },
-        });
+    chain.in_turn(toggle)?;
+    let answer = next_segment(&chain, staging);
+    let sent = chain.count + LONGEST_PART;
+    if chain.declared <= sent {
+        return Ok(Taken { answer, next: None });
     }
-    Ok(answer)
+    Ok(Taken {
+        answer,
+        next: Some(chain.after_segment(sent)),
+    })
 }
 
-// A segment that the open write chain takes: the object, what was declared and joined before, and the segment's bytes.
-#[derive(Clone, Copy)]
-pub struct Joining<'a> {
-    pub at: Address,
-    pub declared: usize,
-    pub count: usize,
-    pub bytes: &'a [u8],
-}
-
-// The checks of a write segment, in their order.
+// The checks of a write segment, in their order. The command's fields are parameters, as at `segment_write`.
+#[tactic(auto, using(crate::proofs::SegmentWrites::judged))]
 fn admitted<'a>(
-    chain: &Chain,
+    chain: Option<Chain>,
     toggle: bool,
     last: bool,
     part: Option<Part<'a>>,
 ) -> Result<Joining<'a>, ChainFault>
-    ensures judges { Judges chain.now.state toggle last part.entry result }
-    ensures joins { IfOk result (λ j. Joins chain.now.state toggle part.entry j) }
+    ensures judges { Judges chain toggle last part.entry result }
+    ensures joins { IfOk result (λ j. Joins chain toggle part.entry j) }
 {
-    let State::Writing {
-        at,
-        declared,
-        count,
-        toggle: turn,
-    } = chain.state
-    else {
+    let chain = chain.ok_or(ChainFault::NoChain)?;
+    let Direction::Write { at } = chain.direction else {
         return Err(ChainFault::NoChain);
     };
-    in_turn(turn, toggle)?;
-    let Some(part) = part else {
-        return Err(ChainFault::Misfit);
-    };
-    let bytes = part.bytes;
-    if bytes.len() > declared - count {
+    chain.in_turn(toggle)?;
+    let part = part.ok_or(ChainFault::Misfit)?;
+    let room = chain.declared - chain.count;
+    if part.bytes.len() > room {
         return Err(ChainFault::SumOver);
     }
-    if last && bytes.len() < declared - count {
+    if last && part.bytes.len() < room {
         return Err(ChainFault::LastShort);
     }
-    Ok(Joining {
-        at,
-        declared,
-        count,
-        bytes,
-    })
-}
-
-// Lays a segment's bytes behind the `count` bytes joined before it, and tells how many are then joined.
-fn join(staging: &mut [u8], count: usize, bytes: &[u8]) -> usize
-    requires { count + length bytes.now ≤ length staging.old }
-    ensures sum { result ≡ count + length bytes.now }
-    ensures staging { staging.new ≡ laid (take count staging.old ++ bytes.now) staging.old }
-{
-    let sum = count + bytes.len();
-    staging[count..sum].copy_from_slice(bytes);
-    sum
+    Ok(Joining { at, chain, part })
 }
 
 // One segment of a write chain: its bytes are staged, and the last one brings the staged bytes to the dictionary.
+// The command's fields are parameters: a struct of them would be one more type between it and the command.
+#[tactic(auto, using(crate::proofs::SegmentJoins::joined))]
 pub(crate) fn segment_write<D: Dictionary>(
-    guard: &mut Guard<'_>,
+    chain: Option<Chain>,
     dict: &mut D,
     n: u8,
     toggle: bool,
     last: bool,
     part: Option<Part<'_>>,
-    staging: &mut [u8],
-) -> Result<Answer, Fault>
-    requires { (4096 ≤ length staging.old) × (guard.old.kept ≡ false) }
-    ensures leaves { Carried (SegmentWrite n toggle last part.entry) (D.Dictionary.meaning dict.old) (chain_of guard.old.chain.now.state staging.old) staging.old (shown_answer result) (left guard.new.kept guard.new.chain.now.state staging.new) (D.Dictionary.meaning dict.new) staging.new }
-    ensures same { guard.new.chain.ghost_name ≡ guard.old.chain.ghost_name }
+    staging: &mut [u8; LONGEST_VALUE],
+) -> Result<Taken, Fault>
+    ensures { Carried (SegmentWrite n toggle last part.entry) (D.Dictionary.meaning dict.old) (chain_of chain staging.old) staging.old (shown_taken result) (chain_of (next_of result) staging.new) (D.Dictionary.meaning dict.new) staging.new }
 {
-    let Joining {
-        at,
-        declared,
-        count,
-        bytes,
-    } = admitted(guard.chain, toggle, last, part)?;
-    let sum = join(staging, count, bytes);
+    let joining = admitted(chain, toggle, last, part)?;
+    let sum = joining.join(staging);
+    let answer = Answer::segment_taken(n, toggle);
     if last {
-        dict.write(at, &staging[0..sum])?;
-        return Ok(Answer::segment_taken(n, toggle));
+        dict.write(joining.at, &staging[0..sum])?;
+        return Ok(Taken { answer, next: None });
     }
-    guard.keep(Chain {
-        state: State::Writing {
-            at,
-            declared,
-            count: sum,
-            toggle: !toggle,
-        },
-    });
-    Ok(Answer::segment_taken(n, toggle))
+    Ok(Taken {
+        answer,
+        next: Some(joining.chain.after_segment(sum)),
+    })
 }
