@@ -1,73 +1,96 @@
-// What a line of a recording does to a board.
-ghost use Rattle.std.specs.Prelude.{◌≡◌, ◌++◌, take, string_bytes, OnOk};
-ghost use Rattle.bench.specs.Printing.{answer_line};
+// A port over a dictionary, which listens to a recording.
+ghost use Rattle.std.specs.Prelude.{◌≡◌, [], string_bytes, OnOk};
+ghost use Rattle.recording.specs.Reading.{left};
+ghost use Rattle.bench.specs.Boards.{state, Serves, Prints};
+ghost use Rattle.bench.specs.Serving.{taken, all_taken};
 
 use dictionary::Dictionary;
-use port::Port;
-use recording::{Line, MOST_BYTES, push_pairs};
+use port::{LONGEST_ANSWER, LONGEST_BODY, LONGEST_VALUE, Port};
+use recording::{BadLine, Digits, Line, Listener, Pairs};
 use std::alloc::AllocError;
+use std::io;
 
-// So many bytes from the front of the memory, or all.
-fn front(memory: &[u8], count: usize) -> &[u8]
-    ensures { result.now ≡ take count memory.now }
-{
-    if count < memory.len() {
-        return &memory[0..count];
-    }
-    memory
+// The port with its dictionary, the memories of its calls, and the text of its answers.
+#[derive(Drop)]
+pub struct Board<'a, D> {
+    rt: &'a HostRuntime,
+    port: Port,
+    dict: D,
+    frame: [u8; LONGEST_BODY],
+    staging: [u8; LONGEST_VALUE],
+    answer: [u8; LONGEST_ANSWER],
+    text: String,
 }
 
-// Appends the line of an answer: its cable bytes, as upper-case digits.
-fn push_line(text: &mut String, cable: &[u8]) -> Result<(), AllocError>
-    ensures { OnOk result (string_bytes text.new ≡ string_bytes text.old ++ answer_line cable.now) }
-{
-    push_pairs(text, cable)?;
-    text.push_str("\n")
-}
-
-// Gives the bytes to the port, one after the other.
-fn take_bytes<D: Dictionary>(
-    bytes: &[u8],
-    port: &mut Port,
-    dict: &mut D,
-    frame: &mut [u8],
-    staging: &mut [u8],
-    answer: &mut [u8],
-    text: &mut String,
-) -> Result<(), AllocError> {
-    for b in bytes {
-        if let Ok(Some(reply)) = port.byte(dict, *b, frame, staging, answer) {
-            push_line(text, front(answer, reply.length))?;
-        }
-    }
-    Ok(())
-}
-
-// Takes what a line says; a bad line is printed by its number and gives no byte.
-pub fn take_line<D: Dictionary>(
-    number: u64,
-    line: Line,
-    bytes: &[u8; MOST_BYTES],
-    port: &mut Port,
-    dict: &mut D,
-    frame: &mut [u8],
-    staging: &mut [u8],
-    answer: &mut [u8],
-    text: &mut String,
-) -> Result<(), anyhow::Error> {
-    match line {
-        Line::Bytes(count) => take_bytes(
-            front(bytes, count),
+impl<'a, D: Dictionary> Board<'a, D> {
+    // No byte is taken yet.
+    pub fn new(rt: &'a HostRuntime, port: Port, dict: D) -> Board<'a, D>
+        ensures port { result.port ≡ port }
+        ensures dict { result.dict ≡ dict }
+        ensures text { string_bytes result.text ≡ [] }
+    {
+        Board {
+            rt,
             port,
             dict,
-            frame,
-            staging,
-            answer,
-            text,
-        )?,
-        Line::Silence => port.silence(),
-        Line::Nothing => {}
-        Line::Bad => writeln!(text, "?{number}")?,
+            frame: [0; LONGEST_BODY],
+            staging: [0; LONGEST_VALUE],
+            answer: [0; LONGEST_ANSWER],
+            text: String::new(rt.alloc()),
+        }
     }
-    Ok(())
+
+    // Gives a byte to the port, and appends the line of what it answers.
+    fn take(&mut self, byte: u8) -> Result<(), AllocError>
+        ensures { OnOk result (state D.Dictionary.meaning self.new ≡ taken (state D.Dictionary.meaning self.old) byte) }
+    {
+        let called = self.port.byte(
+            &mut self.dict,
+            byte,
+            &mut self.frame,
+            &mut self.staging,
+            &mut self.answer,
+        );
+        match called {
+            Ok(Some(reply)) => {
+                let length = reply.length.min(LONGEST_ANSWER);
+                writeln!(self.text, "{}", Digits(&self.answer[..length]))
+            }
+            // No call is refused: the memories have the lengths that are asked for.
+            _ => Ok(()),
+        }
+    }
+
+    // Gives one byte after another. The sniffer has this loop over its own call: a generic one would be a trait for two lines.
+    fn take_all(&mut self, bytes: Pairs<'_>) -> Result<(), AllocError>
+        ensures { OnOk result (state D.Dictionary.meaning self.new ≡ all_taken (state D.Dictionary.meaning self.old) (left bytes.entry)) }
+    {
+        for byte in bytes {
+            self.take(byte)?;
+        }
+        Ok(())
+    }
+}
+
+impl<D: Dictionary> Listener for Board<'_, D> {
+    ghost hears = { Serves D.Dictionary.meaning };
+
+    ghost pauses = { Prints D.Dictionary.meaning };
+
+    // A bad line is printed by its number and gives no byte.
+    fn line(&mut self, number: u64, line: Result<Line<'_>, BadLine>) -> io::Result<()> {
+        match line {
+            Ok(Line::Bytes(bytes)) => self.take_all(bytes)?,
+            Ok(Line::Silence) => self.port.silence(),
+            Ok(Line::Nothing) => {}
+            Err(BadLine) => writeln!(self.text, "?{number}")?,
+        }
+        Ok(())
+    }
+
+    fn pause(&mut self) -> io::Result<()> {
+        self.rt.print(self.text.as_str())?;
+        self.text.clear();
+        Ok(())
+    }
 }

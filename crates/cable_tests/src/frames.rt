@@ -10,21 +10,22 @@ const UNUSED: u8 = 0x55;
 const REQUEST: [u8; 10] = [0x90, 0x02, 0x60, 0x02, 0x01, 0xB0, 0x30, 0x00, 0x2E, 0x62];
 
 // Takes the bytes and compares how many bodies they complete, and the OpCode of the last that is heard.
-fn hears(rt: &impl Abort, bytes: &[u8], bodies: usize, opcode: Option<u8>) -> Result<(), Fail> {
+fn hears(
+    rt: &(impl Abort + Alloc),
+    bytes: &[u8],
+    bodies: usize,
+    opcode: Option<u8>,
+) -> Result<(), Fail> {
     let mut memory = [UNUSED; 514];
     let mut receiver = Receiver::new();
-    let mut count = 0usize;
-    let mut last = None;
+    let mut heard = Vec::new(rt.alloc());
     for b in bytes {
         if let Some(n) = receiver.take(*b, &mut memory)? {
-            count = count.saturating_add(1);
-            if let Some(body) = memory.get(0..n) {
-                last = opcode_of(body);
-            }
+            heard.push(memory.get(0..n).and_then(opcode_of))?;
         }
     }
-    assert_eq!(rt; count, bodies);
-    assert_eq!(rt; last, opcode);
+    assert_eq!(rt; heard.len(), bodies);
+    assert_eq!(rt; heard.last().copied().flatten(), opcode);
     Ok(())
 }
 

@@ -13,6 +13,7 @@ mod frames;
 mod lines;
 
 // The OpCode of a body. Its checksum is tested first: nothing can be read from an untested body.
+#[tactic(auto, using(wire::proofs::Apart::computed))]
 pub fn opcode_of(bytes: &[u8]) -> Option<u8>
     ensures { result ≡ first_byte (checked_frame bytes.now) }
 {

@@ -1,47 +1,88 @@
 // Lines and inputs with what they say.
-use recording::{Line, Lines, MOST_BYTES, read_line};
+ghost use Rattle.std.specs.Prelude.{⊤};
+
+use recording::{BadLine, Digits, Line, Lines, Listener, play, push_pairs, read_line};
+use std::io;
 use std::process::Abort;
 use std::test::Fail;
 
-const UNUSED: u8 = 0x55;
+// What a good line says, with the count of its bytes.
+#[derive(Clone, Copy, Debug, PartialEq, Eq)]
+enum Said {
+    Bytes(usize),
+    Silence,
+    Nothing,
+}
 
-// Reads a line, and compares all of the memory after it.
-fn says(rt: &impl Abort, line: &[u8], expected: Line, bytes: &[u8]) {
-    let mut memory = [UNUSED; MOST_BYTES];
-    assert_eq!(rt; read_line(line, &mut memory), expected);
-    for (i, b) in memory.iter().enumerate() {
-        assert_eq!(rt; *b, bytes.get(i).copied().unwrap_or(UNUSED));
+type Told = Result<Said, BadLine>;
+
+#[tactic(auto, using(recording::proofs::Couples::few_pairs))]
+fn reading(line: Result<Line<'_>, BadLine>) -> Told {
+    Ok(match line? {
+        Line::Bytes(bytes) => Said::Bytes(bytes.count()),
+        Line::Silence => Said::Silence,
+        Line::Nothing => Said::Nothing,
+    })
+}
+
+// Keeps each line that it is told, with its number. The test compares them, so no clause says what it keeps.
+#[derive(Drop)]
+struct Heard {
+    lines: Vec<(u64, Told)>,
+}
+
+impl Listener for Heard {
+    ghost hears = { λ _ _ _ _. ⊤ };
+
+    ghost pauses = { λ _ _. ⊤ };
+
+    fn line(&mut self, number: u64, line: Result<Line<'_>, BadLine>) -> io::Result<()> {
+        self.lines.push((number, reading(line)))?;
+        Ok(())
+    }
+
+    fn pause(&mut self) -> io::Result<()> {
+        Ok(())
+    }
+}
+
+// Reads a line, and compares its bytes.
+fn says(rt: &impl Abort, line: &[u8], expected: Told, bytes: &[u8]) {
+    assert_eq!(rt; reading(read_line(line)), expected);
+    if let Ok(Line::Bytes(pairs)) = read_line(line) {
+        for (pair, byte) in pairs.zip(bytes) {
+            assert_eq!(rt; pair, *byte);
+        }
     }
 }
 
 // Compares the line that is ended, and its number.
-fn ends(rt: &impl Abort, lines: &Lines, number: usize, expected: &[Line]) -> Result<(), Fail> {
-    let mut memory = [UNUSED; MOST_BYTES];
-    assert_eq!(rt; lines.number(), number as u64);
-    match expected.get(number.saturating_sub(1)) {
-        Some(line) => {
-            assert_eq!(rt; lines.line(&mut memory), *line);
-            Ok(())
-        },
-        None => Err(Fail::new("a line too many")),
-    }
+fn ends(
+    rt: &impl Abort,
+    lines: &Lines,
+    number: u64,
+    expected: Option<(u64, &Told)>,
+) -> Result<(), Fail> {
+    assert_eq!(rt; lines.number(), number);
+    let (count, says) = expected.ok_or("a line too many")?;
+    assert_eq!(rt; number, count);
+    assert_eq!(rt; reading(lines.line()), *says);
+    Ok(())
 }
 
 // Takes an input, and compares each line as it ends.
-fn gathers(rt: &impl Abort, input: &[u8], expected: &[Line]) -> Result<(), Fail> {
+fn gathers(rt: &impl Abort, input: &[u8], expected: &[Told]) -> Result<(), Fail> {
     let mut lines = Lines::new();
-    let mut number = 0usize;
+    let mut expected = (1..=u64::MAX).zip(expected);
     for b in input {
-        if lines.take(*b) {
-            number = number.saturating_add(1);
-            ends(rt, &lines, number, expected)?;
+        if let Some(number) = lines.take(*b) {
+            ends(rt, &lines, number, expected.next())?;
         }
     }
-    if lines.finish() {
-        number = number.saturating_add(1);
-        ends(rt, &lines, number, expected)?;
+    if let Some(number) = lines.finish() {
+        ends(rt, &lines, number, expected.next())?;
     }
-    assert_eq!(rt; number, expected.len());
+    assert!(rt; expected.next().is_none());
     Ok(())
 }
 
@@ -50,39 +91,79 @@ fn pairs(rt: HostRuntime) {
     says(
         &rt,
         b"0123456789ABCDEF",
-        Line::Bytes(8),
+        Ok(Said::Bytes(8)),
         &[0x01, 0x23, 0x45, 0x67, 0x89, 0xAB, 0xCD, 0xEF],
     );
-    says(&rt, b"abcdefaF", Line::Bytes(4), &[0xAB, 0xCD, 0xEF, 0xAF]);
-    says(&rt, b"9002900", Line::Bad, &[]);
+    says(
+        &rt,
+        b"abcdefaF",
+        Ok(Said::Bytes(4)),
+        &[0xAB, 0xCD, 0xEF, 0xAF],
+    );
+    says(&rt, b"9002900", Err(BadLine), &[]);
 }
 
 #[test]
 fn lengths(rt: HostRuntime) -> Result<(), Fail> {
-    says(&rt, &[b'f'; 4096], Line::Bytes(2048), &[0xFF; 2048]);
-    says(&rt, &[b'f'; 4098], Line::Bad, &[]);
-    gathers(&rt, &[b'0'; 4096], &[Line::Bytes(2048)])?;
-    gathers(&rt, &[b'0'; 4097], &[Line::Bad])
+    says(&rt, &[b'f'; 4096], Ok(Said::Bytes(2048)), &[0xFF; 2048]);
+    says(&rt, &[b'f'; 4098], Err(BadLine), &[]);
+    gathers(&rt, &[b'0'; 4096], &[Ok(Said::Bytes(2048))])?;
+    gathers(&rt, &[b'0'; 4097], &[Err(BadLine)])
 }
 
 #[test]
 fn inputs(rt: HostRuntime) -> Result<(), Fail> {
     gathers(&rt, b"", &[])?;
-    gathers(&rt, b"\n", &[Line::Nothing])?;
+    gathers(&rt, b"\n", &[Ok(Said::Nothing)])?;
     gathers(
         &rt,
         b"90\n\nS\n0\r\n02",
         &[
-            Line::Bytes(1),
-            Line::Nothing,
-            Line::Silence,
-            Line::Bad,
-            Line::Bytes(1),
+            Ok(Said::Bytes(1)),
+            Ok(Said::Nothing),
+            Ok(Said::Silence),
+            Err(BadLine),
+            Ok(Said::Bytes(1)),
         ],
     )?;
     gathers(
         &rt,
         b"s\nSS\n\r\nS\r\n90 0\n900\n900g\n/0\n0:\n@0\n90\xC3\xA4\n",
-        &[Line::Bad; 11],
+        &[Err(BadLine); 11],
     )
+}
+
+#[test]
+fn played(rt: HostRuntime) -> Result<(), Fail> {
+    let mut heard = Heard {
+        lines: Vec::new(rt.alloc()),
+    };
+    let mut input = b"90\n\nS\n0\r\n02".as_slice();
+    assert_eq!(rt; play(&mut input, &mut heard)?, 5);
+    assert_eq!(rt;
+        heard.lines.as_slice(),
+        [
+            (1, Ok(Said::Bytes(1))),
+            (2, Ok(Said::Nothing)),
+            (3, Ok(Said::Silence)),
+            (4, Err(BadLine)),
+            (5, Ok(Said::Bytes(1))),
+        ]
+        .as_slice()
+    );
+    Ok(())
+}
+
+#[test]
+fn spelled(rt: HostRuntime) -> Result<(), Fail> {
+    let bytes = [0x00, 0x9A, 0xFF];
+    let mut text = format!(in rt.alloc(); "{}", Digits(&bytes))?;
+    assert_eq!(rt; text.as_str(), "009AFF");
+    push_pairs(&mut text, &bytes)?;
+    assert_eq!(rt; text.as_str(), "009AFF009AFF");
+    assert_eq!(rt;
+        BadLine.to_string(rt.alloc())?.as_str(),
+        "neither digit pairs, nor S alone, nor empty"
+    );
+    Ok(())
 }

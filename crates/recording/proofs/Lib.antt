@@ -1,5 +1,6 @@
-pub mod Digits
+pub mod Couples
+pub mod Hearing
 pub mod Kept
-pub mod Pairs
+pub mod Spelled
 pub mod Splits
 pub mod Steps

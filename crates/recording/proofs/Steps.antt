@@ -26,7 +26,7 @@ all_say (l ∷ ls) = ap (λ m. m ∷ map meaning (map kept ls)) (kept_meaning l)
 tell : (input : List ℕ) (texts : List (List ℕ)) → texts ≡ map kept (lines input) → Told input texts
 tell input texts e = record { splits = lines_split input; kept_lines = e; says = ap (map meaning) e ∙ all_say (lines input) }
 
-number_next : (n : ℕ) → numbered (numbered n + 1) ≡ numbered (n + 1)
+pub number_next : (n : ℕ) → numbered (numbered n + 1) ≡ numbered (n + 1)
 number_next n = omega arith
 
 -- the byte begins a line

@@ -1,6 +1,5 @@
 -- How the lines of an input are gathered byte by byte. Assumes nothing.
-use Rattle.std.specs.Prelude.{◌≡◌, ℕ, ◌+◌, ◌-◌, ◌^◌, min, Bool, true, false, cond, List, [], ◌∷◌, ◌++◌, map, length, take, ◌==◌}
-use Rattle.recording.specs.declared.gathering.Lines.{Lines}
+use Rattle.std.specs.Prelude.{◌≡◌, ℕ, ◌+◌, ◌-◌, ◌^◌, min, Bool, true, false, cond, List, [], ◌∷◌, ◌++◌, map, length, Some, None, Option, ◌==◌}
 use Rattle.recording.specs.Lines.{lines, unended, Splits, kept}
 use Rattle.recording.specs.Meaning.{meaning}
 
@@ -9,9 +8,6 @@ pub record Held : Type 0 where
   pub text : List ℕ
   pub begun : Bool
   pub number : ℕ
-
-abbrev pub held : Lines → Held
-held s = record { text = take s.count s.text; begun = s.begun; number = s.number }
 
 -- before the first byte
 abbrev pub fresh : Held
@@ -41,6 +37,11 @@ taking b h = cond (b == 0x0A) (ending (beginning h)) (adding b (beginning h))
 abbrev pub one : Bool → Held → List (List ℕ)
 one true h = h.text ∷ []
 one false h = []
+
+-- and its number
+abbrev pub number_of : Bool → Held → Option ℕ
+number_of true h = Some h.number
+number_of false h = None
 
 -- these texts are the lines that an input splits into, as far as they are kept, and say what the whole lines say
 pub record Told (input : List ℕ) (texts : List (List ℕ)) : Type 0 where

@@ -1,7 +1,5 @@
 -- What one line of a recording says. Assumes nothing.
-use Rattle.std.specs.Prelude.{ℕ, suc, ◌+◌, ◌*◌, ◌≤◌, cond, List, [], ◌∷◌, ◌++◌, length, drop, Some, None, codes, Option, ◌==◌, nat_lt}
-use Rattle.recording.specs.declared.reading.Line.{Line}
-use Rattle.recording.specs.declared.reading.Line.TheVariants.{Bytes, Silence, Nothing, Bad}
+use Rattle.std.specs.Prelude.{ℕ, suc, ◌+◌, ◌*◌, cond, List, [], ◌∷◌, ◌++◌, length, Some, None, codes, Option, ◌==◌, nat_lt}
 
 -- each character with its value, the values counted up from v
 abbrev pub valued : List ℕ → ℕ → List (ℕ × ℕ)
@@ -60,17 +58,3 @@ abbrev pub meaning : List ℕ → Meaning
 meaning [] = nothing
 meaning (c ∷ []) = cond (c == 0x53) silence (spelling (c ∷ []))
 meaning (c ∷ d ∷ text) = spelling (c ∷ d ∷ text)
-
--- how a call tells what a line says, and the memory that it leaves: the bytes at the front, and the rest as it was
-abbrev pub telling : Meaning → List ℕ → Line × List ℕ
-telling (bytes xs) memory = (Bytes (length xs), xs ++ drop (length xs) memory)
-telling silence memory = (Silence, memory)
-telling nothing memory = (Nothing, memory)
-telling bad memory = (Bad, memory)
-
--- the bytes that are told of lie in a memory of 2,048
-abbrev pub Within : Line → Type 0
-Within (Bytes n) = n ≤ 2048
-Within Silence = Unit {0}
-Within Nothing = Unit {0}
-Within Bad = Unit {0}

@@ -1,114 +1,53 @@
 // What one line of a recording says.
-ghost use Rattle.std.specs.Prelude.{◌≡◌, ℕ, ◌<◌, ◌≤◌, List, ◌++◌, length, drop, is_some, IfSome, Some};
-ghost use Rattle.recording.specs.Meaning.{digit_value, joined, pairs, spelling, meaning, telling, Within};
+ghost use Rattle.std.specs.Prelude.{◌≡◌, Some, codes};
+ghost use Rattle.recording.specs.Meaning.{spelling, meaning};
+ghost use Rattle.recording.specs.Reading.{said, Within};
 
-// A line may have so many characters, its line feed not counted.
-const LONGEST_LINE: usize = 4096;
-
-// The bytes that the longest line can spell.
-pub const MOST_BYTES: usize = 2048;
+use crate::pairs::Pairs;
+use std::error::Error;
+use std::fmt;
 
 // A line without its line feed.
 #[derive(Clone, Copy, Debug, PartialEq, Eq)]
-pub enum Line {
-    // Digit pairs: so many bytes.
-    Bytes(usize),
+pub enum Line<'a> {
+    // Digit pairs: their bytes.
+    Bytes(Pairs<'a>),
     // The letter S alone.
     Silence,
     // The empty line.
     Nothing,
-    // Any other line.
-    Bad,
 }
 
-// The value of a hexadecimal digit.
-fn digit(character: u8) -> Option<u8>
-    ensures value { result ≡ digit_value character }
-    ensures small { IfSome result (λ d. d < 16) }
-{
-    match character {
-        b'0' => Some(0),
-        b'1' => Some(1),
-        b'2' => Some(2),
-        b'3' => Some(3),
-        b'4' => Some(4),
-        b'5' => Some(5),
-        b'6' => Some(6),
-        b'7' => Some(7),
-        b'8' => Some(8),
-        b'9' => Some(9),
-        b'A' | b'a' => Some(10),
-        b'B' | b'b' => Some(11),
-        b'C' | b'c' => Some(12),
-        b'D' | b'd' => Some(13),
-        b'E' | b'e' => Some(14),
-        b'F' | b'f' => Some(15),
-        _ => None,
+// A line of no other kind.
+#[derive(Clone, Copy, Debug, PartialEq, Eq)]
+pub struct BadLine;
+
+impl fmt::Display for BadLine {
+    ghost output = { λ _. Some (codes "neither digit pairs, nor S alone, nor empty") };
+
+    fn fmt<W: fmt::Write>(&self, f: &mut fmt::Formatter<W>) -> fmt::Result {
+        write!(f, "neither digit pairs, nor S alone, nor empty")
     }
 }
 
-// The byte of two digits, the high one first.
-fn pair(high: u8, low: u8) -> Option<u8>
-    ensures { result ≡ joined (digit_value high) (digit_value low) }
-{
-    let h = digit(high)?;
-    let l = digit(low)?;
-    Some(h * 16 + l)
-}
-
-// Whether a text is digit pairs.
-fn are_pairs(text: &[u8]) -> bool
-    ensures { result ≡ is_some (pairs text.now) }
-{
-    let mut rest = text;
-    while let [high, low, more @ ..] = rest {
-        if pair(*high, *low).is_none() {
-            return false;
-        }
-        rest = more;
-    }
-    rest.is_empty()
-}
-
-// Writes the bytes of a text of digit pairs to the front of the memory; their count.
-fn decode(text: &[u8], memory: &mut [u8; MOST_BYTES]) -> usize
-    requires { length text.now ≤ 4096 }
-    ensures within { result ≤ 2048 }
-    ensures decoded { (bytes : List ℕ) → pairs text.now ≡ Some bytes → (result ≡ length bytes) × (memory.new ≡ bytes ++ drop (length bytes) memory.old) }
-{
-    let mut count = 0;
-    let mut rest = text;
-    while let [high, low, more @ ..] = rest {
-        let Some(byte) = pair(*high, *low) else {
-            return count;
-        };
-        memory[count] = byte;
-        count += 1;
-        rest = more;
-    }
-    count
-}
+impl Error for BadLine {}
 
 // Reads a line that is neither empty nor S alone.
-fn read_pairs(text: &[u8], memory: &mut [u8; MOST_BYTES]) -> Line
-    ensures told { (result, memory.new) ≡ telling (spelling text.now) memory.old }
-    ensures within { Within result }
+fn read_pairs(text: &[u8]) -> Result<Line<'_>, BadLine>
+    ensures { said result ≡ spelling text.now }
 {
-    if text.len() > LONGEST_LINE || !are_pairs(text) {
-        return Line::Bad;
-    }
-    Line::Bytes(decode(text, memory))
+    Pairs::new(text).map(Line::Bytes).ok_or(BadLine)
 }
 
-// Reads a line, without its line feed. The bytes of its digit pairs go to the front of the memory;
-// a line of any other kind leaves it.
-pub fn read_line(line: &[u8], memory: &mut [u8; MOST_BYTES]) -> Line
-    ensures told { (result, memory.new) ≡ telling (meaning line.now) memory.old }
-    ensures within { Within result }
+// Reads a line, without its line feed.
+#[tactic(auto, using(crate::proofs::Couples::within))]
+pub fn read_line(line: &[u8]) -> Result<Line<'_>, BadLine>
+    ensures told { said result ≡ meaning line.now }
+    ensures within { Within (said result) }
 {
     match line {
-        [] => Line::Nothing,
-        [b'S'] => Line::Silence,
-        text => read_pairs(text, memory),
+        [] => Ok(Line::Nothing),
+        [b'S'] => Ok(Line::Silence),
+        text => read_pairs(text),
     }
 }

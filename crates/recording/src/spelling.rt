@@ -7,7 +7,7 @@ use std::alloc::AllocError;
 
 const DIGITS: [u8; 16] = *b"0123456789ABCDEF";
 
-// The upper-case digit of a value.
+// The upper-case digit of a value, from a table: `{:02X}` needs a formatter, and `spell` fills an array.
 fn upper_digit(value: u8) -> u8
     requires { value < 16 }
     ensures { result ≡ slice_index upper_digits value }
@@ -16,6 +16,7 @@ fn upper_digit(value: u8) -> u8
 }
 
 // The two digits of a byte, in upper case, the high one first.
+#[tactic(auto, using(crate::proofs::Spelled::reads_back))]
 pub fn spell(byte: u8) -> [u8; 2]
     ensures digits { result ≡ spelled_byte byte }
     ensures reads_back { pairs result ≡ Some (byte ∷ []) }
@@ -24,6 +25,7 @@ pub fn spell(byte: u8) -> [u8; 2]
 }
 
 // Appends the two digits of a byte to a text that has room for them.
+#[tactic(auto, using(crate::proofs::Spelled::digit_small, crate::proofs::Spelled::pushed_twice))]
 fn push_pair(text: &mut String, byte: u8) -> Result<(), AllocError>
     requires { string_len text.old + 2 ≤ string_capacity text.old }
     ensures ok { is_ok result ≡ true }
@@ -37,10 +39,12 @@ fn push_pair(text: &mut String, byte: u8) -> Result<(), AllocError>
 }
 
 // Appends the digits of the bytes to a text, which stays as it was where there is no room.
+#[tactic(auto, using(crate::proofs::Spelled::all_read_back))]
 pub fn push_pairs(text: &mut String, bytes: &[u8]) -> Result<(), AllocError>
     ensures bytes { string_bytes text.new ≡ (if is_ok result then string_bytes text.old ++ spelled_bytes bytes.now else string_bytes text.old) }
     ensures reads_back { pairs (spelled_bytes bytes.now) ≡ Some bytes.now }
 {
+    // Room comes first, and no `write!`: of one that fails the proof doesn't learn how much it wrote.
     text.reserve(bytes.len().saturating_mul(2))?;
     for b in bytes {
         push_pair(text, *b)?;

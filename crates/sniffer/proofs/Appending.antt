@@ -1,31 +1,22 @@
--- One text appended after another. Assumes nothing.
-use Rattle.std.proofs.Common.{◌≡◌, ℕ, ◌-◌, ◌≤◌, cond, ltb, List, [], ◌++◌, length, get_or, take, drop, is_ok, IfOk, Ok, Err, Result, sym, ap, ◌∙◌, append_assoc, arith, length-drop}
-use Rattle.std.proofs.lemmas.List.{take_rest}
+-- The parts of a line, one after another. Assumes nothing.
+use Rattle.std.proofs.Common.{◌≡◌, ℕ, ◌-◌, ◌≤◌, ltb, List, [], ◌∷◌, ◌++◌, length, get_or, take, drop, Some, codes, Option, sym, ap, ◌∙◌, arith}
+use Rattle.std.specs.Fmt.{◌++?◌}
 use Rattle.std.proofs.lemmas.Bool.{cond-false, le-ltb}
+use Rattle.recording.specs.Spelling.{spelled_byte, spelled_bytes}
 use Rattle.sniffer.specs.Reporting.{parts_line, body_line_lem}
 
--- the last of the texts was appended, where the call says so
-pub appended : {T E : Type 0} (r : Result T E) (old first mid added new : List ℕ) → mid ≡ old ++ first → new ≡ cond (is_ok r) (mid ++ added) mid
-    → IfOk r (λ _. new ≡ old ++ (first ++ added))
-appended (Ok x) old first mid added new e f = f ∙ ap (λ l. l ++ added) e ∙ append_assoc old first added
-appended (Err e) old first mid added new _ f = tt
+-- what the parts of a body's line print
+abbrev printed : List ℕ → Option (List ℕ) → Option (List ℕ) → List ℕ → Option (List ℕ)
+printed name opcode words content =
+    Some name ++? Some (codes " opcode=") ++? opcode ++? Some (codes " len=") ++? words ++? Some (codes " data=" ++ (spelled_bytes content ++ 0x0A ∷ []))
 
--- five texts appended to an empty one
-pub five : (l m n o p q a b c d e : List ℕ) → l ≡ [] → m ≡ l ++ a → n ≡ m ++ b → o ≡ n ++ c → p ≡ o ++ d → q ≡ p ++ e
-    → q ≡ a ++ (b ++ (c ++ (d ++ e)))
-five l m n o p q a b c d e h i j k t u =
-    u ∙ ap (λ x. x ++ e) (t ∙ ap (λ x. x ++ d) (k ∙ ap (λ x. x ++ c) (j ∙ ap (λ x. x ++ b) (i ∙ ap (λ x. x ++ a) h))))
-    ∙ append_assoc ((a ++ b) ++ c) d e ∙ append_assoc (a ++ b) c (d ++ e) ∙ append_assoc a b (c ++ (d ++ e))
-
--- the data of a body: what is left between its first two bytes and its last two
-abbrev pub inner : List ℕ → List ℕ
-inner rest = take (length rest - 2) rest
-
-pub parts_of_body : (word body rest : List ℕ) → 4 ≤ length body → rest ≡ take (length body - 2) (drop 2 body)
-    → parts_line word (get_or body 0 0) (get_or body 1 0) (inner rest) ≡ body_line_lem word body
-parts_of_body word body rest long e =
-    let after : rest ≡ drop 2 body = e ∙ take_rest body 2 in
-    let left : length (drop 2 body) - 2 ≡ length body - 4 = omega (arith, length-drop 2 body) in
-    let content : inner rest ≡ take (length body - 4) (drop 2 body) = ap inner after ∙ ap (λ n. take n (drop 2 body)) left in
-    ap (parts_line word (get_or body 0 0) (get_or body 1 0)) content
-    ∙ sym (cond-false (ltb (length body) 4) [] (parts_line word (get_or body 0 0) (get_or body 1 0) (take (length body - 4) (drop 2 body))) (le-ltb (length body) 4 long))
+pub body_printed : (name body : List ℕ) (opcode words : Option (List ℕ)) → 4 ≤ length body → opcode ≡ Some (spelled_byte (get_or body 0 0))
+    → words ≡ Some (spelled_byte (get_or body 1 0)) → printed name opcode words (take (length body - 2 - 2) (drop 2 body)) ≡ Some (body_line_lem name body)
+body_printed name body opcode words long e f =
+    let content = take (length body - 4) (drop 2 body) in
+    let less : length body - 2 - 2 ≡ length body - 4 = omega arith in
+    let parts = parts_line name (get_or body 0 0) (get_or body 1 0) content in
+    ap (λ o. printed name o words (take (length body - 2 - 2) (drop 2 body))) e
+    ∙ ap (λ o. printed name (Some (spelled_byte (get_or body 0 0))) o (take (length body - 2 - 2) (drop 2 body))) f
+    ∙ ap (λ n. printed name (Some (spelled_byte (get_or body 0 0))) (Some (spelled_byte (get_or body 1 0))) (take n (drop 2 body))) less
+    ∙ ap Some (sym (cond-false (ltb (length body) 4) [] parts (le-ltb (length body) 4 long)))

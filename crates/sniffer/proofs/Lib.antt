@@ -1,2 +1,3 @@
 pub mod Adding
 pub mod Appending
+pub mod Judging

@@ -1,3 +1,4 @@
 pub mod Passing
 pub mod Reporting
 pub mod Adding
+pub mod Sniffing

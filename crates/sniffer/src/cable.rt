@@ -1,60 +1,86 @@
-// What a recording says is taken from its cable, and reported.
-ghost use Rattle.std.specs.Prelude.{◌≡◌, ℕ, ◌≤◌, List, [], ◌∷◌, ◌++◌, length, take};
-ghost use Rattle.wire.specs.Holding.{Holds};
-ghost use Rattle.sniffer.specs.Adding.{reported, Adds, AddsEach, stretch_after, LineAdds, ByResult};
+// What passes on a cable is heard, and reported.
+ghost use Rattle.std.specs.Prelude.{◌≡◌, ℕ, List, [], ◌∷◌, ◌++◌, is_ok, if◌then◌else◌, OnOk};
+ghost use Rattle.recording.specs.Reading.{left};
+ghost use Rattle.sniffer.specs.Adding.{Adds, AddsEach, ByResult};
+ghost use Rattle.sniffer.specs.Reporting.{unreported, with_line, total_line_lem};
+ghost use Rattle.sniffer.specs.Sniffing.{Took, Sniffs, Prints};
 
-use crate::passing::{front, sniff};
+use crate::passing::judge;
 use crate::reports::Report;
-use recording::{Line, MOST_BYTES};
+use recording::{BadLine, Line, Listener, Pairs};
 use std::alloc::AllocError;
-use wire::Receiver;
+use std::io;
+use wire::{LONGEST_BODY, Receiver};
 
-// Takes one byte of the cable.
-fn take_byte(
-    byte: u8,
-    receiver: &mut Receiver,
-    memory: &mut [u8],
-    report: &mut Report,
-) -> Result<(), AllocError>
-    ensures { (stretch : List ℕ) → 514 ≤ length memory.old → Holds stretch receiver.old.phase (take receiver.old.gathered memory.old) → Holds (stretch ++ byte ∷ []) receiver.new.phase (take receiver.new.gathered memory.new) × ByResult result (Adds (stretch ++ byte ∷ []) (reported report.old) (reported report.new)) (reported report.new ≡ reported report.old) }
-{
-    let passed = sniff(receiver, memory, byte);
-    report.body(passed, memory)
+// A receiver with the memory in which it gathers bodies, and what it reports of them.
+#[derive(Drop)]
+pub struct Sniffer<'a> {
+    rt: &'a HostRuntime,
+    receiver: Receiver,
+    memory: [u8; LONGEST_BODY],
+    report: Report,
 }
 
-// Takes one byte after another.
-fn take_bytes(
-    bytes: &[u8],
-    receiver: &mut Receiver,
-    memory: &mut [u8],
-    report: &mut Report,
-) -> Result<(), AllocError>
-    ensures { (stretch : List ℕ) → 514 ≤ length memory.old → Holds stretch receiver.old.phase (take receiver.old.gathered memory.old) → ByResult result (Holds (stretch ++ bytes.now) receiver.new.phase (take receiver.new.gathered memory.new) × AddsEach stretch bytes.now (reported report.old) (reported report.new)) (Unit {0}) }
-{
-    for b in bytes {
-        take_byte(*b, receiver, memory, report)?;
-    }
-    Ok(())
-}
-
-// Takes what a line of the recording says.
-pub fn take_line(
-    number: u64,
-    line: Line,
-    bytes: &[u8; MOST_BYTES],
-    receiver: &mut Receiver,
-    memory: &mut [u8],
-    report: &mut Report,
-) -> Result<(), AllocError>
-    ensures { (stretch : List ℕ) → 514 ≤ length memory.old → Holds stretch receiver.old.phase (take receiver.old.gathered memory.old) → ByResult result (Holds (stretch_after line bytes.now stretch) receiver.new.phase (take receiver.new.gathered memory.new) × LineAdds number line bytes.now stretch (reported report.old) (reported report.new)) (Unit {0}) }
-{
-    match line {
-        Line::Bytes(count) => take_bytes(front(bytes, count), receiver, memory, report),
-        Line::Silence => {
-            receiver.silence();
-            Ok(())
+impl<'a> Sniffer<'a> {
+    // No byte is taken yet.
+    pub fn new(rt: &'a HostRuntime) -> Sniffer<'a>
+        ensures empty { Took [] result }
+        ensures report { result.report ≡ unreported }
+    {
+        Sniffer {
+            rt,
+            receiver: Receiver::new(),
+            memory: [0; LONGEST_BODY],
+            report: Report::new(rt.alloc()),
         }
-        Line::Nothing => Ok(()),
-        Line::Bad => report.bad_line(number),
+    }
+
+    // Takes one byte of the cable.
+    #[tactic(auto, using(crate::proofs::Adding::adds_nothing))]
+    fn take(&mut self, byte: u8) -> Result<(), AllocError>
+        ensures { (stretch : List ℕ) → Took stretch self.old → Took (stretch ++ byte ∷ []) self.new × ByResult result (Adds (stretch ++ byte ∷ []) self.old.report self.new.report) (self.new.report ≡ self.old.report) }
+    {
+        let Some(count) = self.receiver.advance(byte, &mut self.memory) else {
+            return Ok(());
+        };
+        let body = &self.memory[..count];
+        self.report.body(judge(body), body)
+    }
+
+    // Takes one byte after another. The bench has this loop over its own call: a generic one would be a trait for two lines.
+    fn take_all(&mut self, bytes: Pairs<'_>) -> Result<(), AllocError>
+        ensures { (stretch : List ℕ) → Took stretch self.old → OnOk result (Took (stretch ++ left bytes.entry) self.new × AddsEach stretch (left bytes.entry) self.old.report self.new.report) }
+    {
+        for byte in bytes {
+            self.take(byte)?;
+        }
+        Ok(())
+    }
+
+    // The recording ends here: adds the line of the counts.
+    pub fn end(&mut self, lines: u64) -> Result<(), AllocError>
+        ensures { self.new.report ≡ (if is_ok result then with_line (total_line_lem self.old.report.tally lines) self.old.report.tally self.old.report else self.old.report) }
+    {
+        self.report.total(lines)
+    }
+}
+
+impl Listener for Sniffer<'_> {
+    ghost hears = { Sniffs };
+
+    ghost pauses = { Prints };
+
+    fn line(&mut self, number: u64, line: Result<Line<'_>, BadLine>) -> io::Result<()> {
+        match line {
+            Ok(Line::Bytes(bytes)) => self.take_all(bytes)?,
+            Ok(Line::Silence) => self.receiver.silence(),
+            Ok(Line::Nothing) => {}
+            Err(BadLine) => self.report.bad_line(number)?,
+        }
+        Ok(())
+    }
+
+    fn pause(&mut self) -> io::Result<()> {
+        self.report.print(self.rt)
     }
 }

@@ -1,51 +1,48 @@
-// What passes on the cable, byte by byte.
-ghost use Rattle.std.specs.Prelude.{◌≡◌, ℕ, ◌≤◌, List, [], ◌∷◌, ◌++◌, length, take};
-ghost use Rattle.wire.specs.Holding.{Holds};
+// How a body passes on the cable.
+ghost use Rattle.std.specs.Prelude.{◌≡◌, ℕ, List, Some};
 ghost use Rattle.wire.specs.Line.{Completes};
-ghost use Rattle.sniffer.specs.Passing.{Passes};
+ghost use Rattle.sniffer.specs.Passing.{judged, Passes};
+ghost use Rattle.sniffer.specs.Reporting.{word_of};
 
-use wire::{Body, Receiver};
+use std::fmt;
+use wire::Body;
 
-// What passed with a byte.
-#[derive(Clone, Copy)]
+// How a body passed.
+#[derive(Clone, Copy, Debug, PartialEq, Eq)]
 pub enum Passed {
-    // No body was complete with it.
-    Nothing,
-    // A body of so many bytes, whose checksum fits.
-    Heard(usize),
-    // A body of so many bytes, whose checksum does not fit.
-    Damaged(usize),
+    // Its checksum fits.
+    Heard,
+    // Its checksum does not fit.
+    Damaged,
 }
 
-// Takes one byte of the cable; the body that it completes stands at the front of the memory.
-pub fn sniff(receiver: &mut Receiver, memory: &mut [u8], byte: u8) -> Passed
-    ensures { (stretch : List ℕ) → 514 ≤ length memory.old → Holds stretch receiver.old.phase (take receiver.old.gathered memory.old) → Holds (stretch ++ byte ∷ []) receiver.new.phase (take receiver.new.gathered memory.new) × Passes (stretch ++ byte ∷ []) result memory.new }
-{
-    let Ok(complete) = receiver.take(byte, memory) else {
-        return Passed::Nothing;
-    };
-    match complete {
-        Some(count) => judge(memory, count),
-        None => Passed::Nothing,
+impl fmt::Display for Passed {
+    ghost output = { λ p. Some (word_of p) };
+
+    fn fmt<W: fmt::Write>(&self, f: &mut fmt::Formatter<W>) -> fmt::Result {
+        f.write_str(match self {
+            Passed::Heard => "heard",
+            Passed::Damaged => "damaged",
+        })
     }
 }
 
-// Whether the body at the front of the memory is a frame.
-fn judge(memory: &[u8], count: usize) -> Passed
-    ensures { (stretch : List ℕ) → count ≤ length memory.now → Completes stretch (take count memory.now) → Passes stretch result memory.now }
+// Whether the checksum of a body fits.
+#[tactic(auto, using(crate::proofs::Judging::heard, crate::proofs::Judging::damaged))]
+fn verdict(body: &[u8]) -> Passed
+    ensures { result ≡ judged body.now }
 {
-    match Body::new(front(memory, count)).check() {
-        Ok(_) => Passed::Heard(count),
-        Err(_) => Passed::Damaged(count),
+    match Body::new(body).check() {
+        Ok(_) => Passed::Heard,
+        Err(_) => Passed::Damaged,
     }
 }
 
-// So many bytes from the front of the memory, or all.
-pub fn front(memory: &[u8], count: usize) -> &[u8]
-    ensures { result.now ≡ take count memory.now }
+// How a body passes, in any stretch that completes it.
+#[tactic(auto, using(crate::proofs::Judging::passes_as))]
+pub fn judge(body: &[u8]) -> Passed
+    ensures judged { result ≡ judged body.now }
+    ensures passes { (stretch : List ℕ) → Completes stretch body.now → Passes stretch result body.now }
 {
-    if count < memory.len() {
-        return &memory[0..count];
-    }
-    memory
+    verdict(body)
 }

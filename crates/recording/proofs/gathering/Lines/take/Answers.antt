@@ -1,12 +1,8 @@
 -- A step keeps the law of the lines that were told.
-use Rattle.recording.specs.Gathering.{held}
+use Rattle.std.proofs.Common.{is_some, rules}
 use Rattle.recording.proofs.Steps.{gathers_more}
 use Rattle.recording.proofs.gathering.Lines.take.Goals as goal
 
-pub returns : goal.returns
-returns c =
-    record {
-      ends = c.advance.ensures.ends;
-      taken = c.advance.ensures.taken;
-      gathers = gathers_more c.args.byte (held c.args.self.now) _ c.advance.result c.advance.ensures.ends c.advance.ensures.taken;
-    }
+pub returns-clause-gathers : goal.returns-clause-gathers
+returns-clause-gathers c =
+    gathers_more c.args.byte c.args.self.now c.advance.new.self (is_some c.then_some.result) (search rules) c.advance.ensures.taken

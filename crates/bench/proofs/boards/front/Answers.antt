@@ -1,6 +1,0 @@
-use Rattle.std.proofs.Common.{sym}
-use Rattle.std.proofs.lemmas.List.{take_all}
-use Rattle.bench.proofs.boards.front.Goals as goal
-
-pub returns : goal.returns
-returns c = sym (take_all c.args.count c.args.memory.now c.if-count-memory.false)

@@ -1,0 +1,82 @@
+// A recording is read from its start to its end, and each of its lines is told to a listener.
+ghost use Rattle.std.specs.Prelude.{◌≡◌, ℕ, is_some, IfSome, OnOk, IfOk};
+ghost use Rattle.recording.specs.Meaning.{Meaning};
+ghost use Rattle.recording.specs.Reading.{said};
+ghost use Rattle.recording.specs.Playing.{told_last, all_taken, ending_lines, Hears, Played};
+
+use crate::gathering::Lines;
+use crate::reading::{BadLine, Line};
+use std::io;
+use std::io::Read;
+
+// How much of the input is read at a time.
+const CHUNK: usize = 65536;
+
+// Who is told the lines of a recording.
+pub trait Listener {
+    // What a line of this number that says this does to it.
+    ghost hears: { Self → ℕ → Meaning → Self → Type 0 };
+
+    // What a pause does to it.
+    ghost pauses: { Self → Self → Type 0 };
+
+    // Takes a line that ended.
+    fn line(&mut self, number: u64, line: Result<Line<'_>, BadLine>) -> io::Result<()>
+        ensures { OnOk result (hears self.old number (said line.entry) self.new) };
+
+    // Is told that the next line may come late, or that none does.
+    fn pause(&mut self) -> io::Result<()>
+        ensures { OnOk result (pauses self.old self.new) };
+}
+
+impl Lines {
+    // Tells the line that ended last, if one did now.
+    fn tell<L: Listener>(&self, ended: Option<u64>, listener: &mut L) -> io::Result<()>
+        requires { IfSome ended (λ n. n ≡ self.now.number) }
+        ensures { OnOk result (Hears L.hears L.pauses (told_last (is_some ended) self.now) listener.old listener.new) }
+    {
+        match ended {
+            Some(number) => listener.line(number, self.line()),
+            None => Ok(()),
+        }
+    }
+
+    // Takes a part of the input, and tells the lines that end in it.
+    fn take_all<L: Listener>(&mut self, chunk: &[u8], listener: &mut L) -> io::Result<()>
+        ensures { OnOk result ((self.new ≡ all_taken chunk.now self.old) × Hears L.hears L.pauses (ending_lines chunk.now self.old) listener.old listener.new) }
+    {
+        for b in chunk {
+            let ended = self.take(*b);
+            self.tell(ended, listener)?;
+        }
+        Ok(())
+    }
+
+    // The input ends here: tells the line that this ends, if one does; how many lines there were.
+    fn end<L: Listener>(&mut self, listener: &mut L) -> io::Result<u64>
+        ensures { IfOk result (λ count. (count ≡ self.old.number) × Hears L.hears L.pauses (told_last self.old.begun self.old) listener.old listener.new) }
+    {
+        let ended = self.finish();
+        self.tell(ended, listener)?;
+        listener.pause()?;
+        Ok(self.number())
+    }
+}
+
+// Reads an input to its end, and tells each of its lines; how many there were.
+pub fn play<R: Read, L: Listener>(input: &mut R, listener: &mut L) -> io::Result<u64>
+    ensures { IfOk result (λ count. Played L.hears L.pauses (R.remaining input.old) count listener.old listener.new) }
+{
+    let mut chunk = [0; CHUNK];
+    let mut lines = Lines::new();
+    // Bounded, since a reader of unknown bytes may never end.
+    for _reads in 0..u64::MAX {
+        let count = input.read(&mut chunk)?;
+        if count == 0 {
+            return lines.end(listener);
+        }
+        lines.take_all(&chunk[..count], listener)?;
+        listener.pause()?;
+    }
+    lines.end(listener)
+}
