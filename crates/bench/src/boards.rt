@@ -1,12 +1,12 @@
 // A port over a dictionary, which listens to a recording.
 ghost use Rattle.std.specs.Prelude.{◌≡◌, [], string_bytes, OnOk};
-ghost use Rattle.recording.specs.Reading.{left};
+ghost use Rattle.recording.specs.Reading.{left, said};
 ghost use Rattle.bench.specs.Boards.{state, Serves, Prints};
 ghost use Rattle.bench.specs.Serving.{taken, all_taken};
 
 use dictionary::Dictionary;
 use port::{LONGEST_ANSWER, LONGEST_BODY, LONGEST_VALUE, Port};
-use recording::{BadLine, Digits, Line, Listener, Pairs};
+use recording::{BadLine, Digits, Line, Listener, Pairs, no_memory};
 use std::alloc::AllocError;
 use std::io;
 
@@ -70,15 +70,13 @@ impl<'a, D: Dictionary> Board<'a, D> {
         }
         Ok(())
     }
-}
 
-impl<D: Dictionary> Listener for Board<'_, D> {
-    ghost hears = { Serves D.Dictionary.meaning };
-
-    ghost pauses = { Prints D.Dictionary.meaning };
-
-    // A bad line is printed by its number and gives no byte.
-    fn line(&mut self, number: u64, line: Result<Line<'_>, BadLine>) -> io::Result<()> {
+    // Does what a line of a recording says. A bad one is printed by its number and gives no byte.
+    // Out of line, so that the loop over lines holds only its small result.
+    #[inline(never)]
+    fn serve(&mut self, number: u64, line: Result<Line<'_>, BadLine>) -> Result<(), AllocError>
+        ensures { OnOk result (Serves D.Dictionary.meaning self.old number (said line.entry) self.new) }
+    {
         match line {
             Ok(Line::Bytes(bytes)) => self.take_all(bytes)?,
             Ok(Line::Silence) => self.port.silence(),
@@ -86,6 +84,18 @@ impl<D: Dictionary> Listener for Board<'_, D> {
             Err(BadLine) => writeln!(self.text, "?{number}")?,
         }
         Ok(())
+    }
+}
+
+impl<D: Dictionary> Listener for Board<'_, D> {
+    ghost hears = { Serves D.Dictionary.meaning };
+
+    ghost pauses = { Prints D.Dictionary.meaning };
+
+    // In line, so that the large error is made only where one is told.
+    #[inline(always)]
+    fn line(&mut self, number: u64, line: Result<Line<'_>, BadLine>) -> io::Result<()> {
+        self.serve(number, line).map_err(|error| no_memory(error))
     }
 
     fn pause(&mut self) -> io::Result<()> {

@@ -4,7 +4,7 @@
 use dictionary::{Access, Address, Dictionary};
 use layers::Pair;
 use port::Port;
-use recording::play;
+use recording::{Listener, play};
 use tables::{NumberRecord, Numbers, RunRecord, Runs};
 
 mod boards;
@@ -16,10 +16,12 @@ const OWN_NODE: u8 = 1;
 // The capacity of the run.
 const CAPACITY: usize = 1024;
 
-// Serves the objects until the input ends; what was answered is printed after each part that was read.
+// Serves the objects until the input ends; what was answered is printed after each part that was read, and at the end.
 fn run<D: Dictionary + Drop>(rt: &HostRuntime, dict: D) -> anyhow::Result<()> {
     let port = Port::open(OWN_NODE)?;
-    play(&mut rt.stdin(), &mut Board::new(rt, port, dict))?;
+    let mut board = Board::new(rt, port, dict);
+    play(&mut rt.stdin(), &mut board)?;
+    board.pause()?;
     Ok(())
 }
 

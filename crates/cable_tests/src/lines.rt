@@ -1,12 +1,13 @@
 // Lines and inputs with what they say.
 ghost use Rattle.std.specs.Prelude.{⊤};
 
-use recording::{BadLine, Digits, Line, Lines, Listener, play, push_pairs, read_line};
+use recording::{BadLine, Digits, Line, Lines, Listener, no_memory, play, push_pairs, read_line};
+use std::alloc::AllocError;
 use std::io;
 use std::process::Abort;
 use std::test::Fail;
 
-// What a good line says, with the count of its bytes.
+// What a good line says, with the number of its bytes.
 #[derive(Clone, Copy, Debug, PartialEq, Eq)]
 enum Said {
     Bytes(usize),
@@ -16,10 +17,9 @@ enum Said {
 
 type Told = Result<Said, BadLine>;
 
-#[tactic(auto, using(recording::proofs::Couples::few_pairs))]
 fn reading(line: Result<Line<'_>, BadLine>) -> Told {
     Ok(match line? {
-        Line::Bytes(bytes) => Said::Bytes(bytes.count()),
+        Line::Bytes(bytes) => Said::Bytes(bytes.len()),
         Line::Silence => Said::Silence,
         Line::Nothing => Said::Nothing,
     })
@@ -49,10 +49,11 @@ impl Listener for Heard {
 // Reads a line, and compares its bytes.
 fn says(rt: &impl Abort, line: &[u8], expected: Told, bytes: &[u8]) {
     assert_eq!(rt; reading(read_line(line)), expected);
-    if let Ok(Line::Bytes(pairs)) = read_line(line) {
-        for (pair, byte) in pairs.zip(bytes) {
-            assert_eq!(rt; pair, *byte);
+    if let Ok(Line::Bytes(mut pairs)) = read_line(line) {
+        for byte in bytes {
+            assert_eq!(rt; pairs.next(), Some(*byte));
         }
+        assert_eq!(rt; pairs.next(), None);
     }
 }
 
@@ -161,9 +162,35 @@ fn spelled(rt: HostRuntime) -> Result<(), Fail> {
     assert_eq!(rt; text.as_str(), "009AFF");
     push_pairs(&mut text, &bytes)?;
     assert_eq!(rt; text.as_str(), "009AFF009AFF");
+    Ok(())
+}
+
+// Digits are written in parts: none, a whole one, and one byte more.
+#[test]
+fn spelled_in_parts(rt: HostRuntime) -> Result<(), Fail> {
+    for count in [0usize, 32, 33] {
+        let bytes = &[0x9A; 33][..count];
+        let mut text = String::new(rt.alloc());
+        push_pairs(&mut text, bytes)?;
+        assert_eq!(rt;
+            format!(in rt.alloc(); "{}", Digits(bytes))?.as_str(),
+            text.as_str()
+        );
+    }
+    Ok(())
+}
+
+#[test]
+fn errors(rt: HostRuntime) -> Result<(), Fail> {
     assert_eq!(rt;
         BadLine.to_string(rt.alloc())?.as_str(),
         "neither digit pairs, nor S alone, nor empty"
+    );
+    let words = AllocError.to_string(rt.alloc())?;
+    assert_eq!(rt; words.as_str(), "memory allocation failed");
+    assert_eq!(rt;
+        no_memory(AllocError).to_string(rt.alloc())?.as_str(),
+        words.as_str()
     );
     Ok(())
 }

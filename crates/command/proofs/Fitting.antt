@@ -12,17 +12,17 @@ use Rattle.wire.proofs.Laying.{stuff_length}
 use Rattle.command.specs.Answers.{four, accepted_data, value_back}
 
 -- a frame has at most twice the bytes of its body, and two more
-fits : (content memory : Bytes) → length content % 2 ≡ 0 → length content ≤ 264 → 538 ≤ length memory
-    → laying 0 content memory ≡ written_over (framed (body_of 0 content)) memory
-fits content memory even few room =
+pub fits : (opcode : ℕ) (content memory : Bytes) → length content % 2 ≡ 0 → length content ≤ 264 → 538 ≤ length memory
+    → laying opcode content memory ≡ written_over (framed (body_of opcode content)) memory
+fits opcode content memory even few room =
     cond-false (misfit content) _ _ (or_from (not (eqb (length content % 2) 0)) (ltb 510 (length content)) (not_from_true _ (eq-eqb _ _ even)) (le-ltb _ _ (omega arith)))
-    ∙ cond-false (ltb (length memory) (length (framed (body_of 0 content)))) _ _
-    (le-ltb _ _ (omega (arith, stuff_length (body_of 0 content), body_length 0 content)))
+    ∙ cond-false (ltb (length memory) (length (framed (body_of opcode content)))) _ _
+    (le-ltb _ _ (omega (arith, stuff_length (body_of opcode content), body_length opcode content)))
 
 pub suffices : (held content memory after : Bytes) (r : Result ℕ Refusal) → content ≡ held → length content % 2 ≡ 0 → length content ≤ 264 → r ≡ (laying 0 content memory).result → after ≡ (laying 0 content memory).memory → 538 ≤ length memory
     → (r ≡ Ok (length (framed (body_of 0 held)))) × (after ≡ laid (framed (body_of 0 held)) memory)
 suffices held content memory after r same even few told left room =
-    let all = fits content memory even few room in (
+    let all = fits 0 content memory even few room in (
       told ∙ (ap (λ x. x.result) all ∙ ap (λ x. Ok (length (framed (body_of 0 x)))) same),
       left ∙ (ap (λ x. x.memory) all ∙ ap (λ x. laid (framed (body_of 0 x)) memory) same),
     )

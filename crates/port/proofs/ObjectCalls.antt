@@ -170,7 +170,7 @@ module _ (d : Objects) (sound : Sound d) (at : Address) where
       length_small (look d at) refl n (takes_from (look d at) n (k.0, k.1.0, k.1.1.0) (k.1.1.1.0, k.1.1.1.1.0)))
 
   -- any value fits a memory of 4,096 bytes
-  roomy : (room : ℕ) → 4096 ≤ room → read_fault (look d at) (value d at) room ≡ first-in (any_read_checks (look d at))
+  pub roomy : (room : ℕ) → 4096 ≤ room → read_fault (look d at) (value d at) room ≡ first-in (any_read_checks (look d at))
   roomy room h = room_for (look d at) (value d at) room (λ a s e. omega (arith, value_small a s e))
 
   -- a number that may be read fits four bytes
@@ -253,7 +253,7 @@ module _ (d : Objects) (at : Address) where
       ∙ ap (λ w. apply d (by_fault (fault node d c f) (λ _. None) (writes w d c f))) (sym is.0))))
 
   -- a refused write leaves all as it was
-  each_refused : (n : ℕ) (e : dictionary.Fault) → Err e ≡ verdict (number_checks n) → Writes (WriteObject at n) d d
+  pub each_refused : (n : ℕ) (e : dictionary.Fault) → Err e ≡ verdict (number_checks n) → Writes (WriteObject at n) d d
   each_refused n e h = each_written n d (by (first-in (number_checks n)) h)
     where
       by : (y : Option dictionary.Fault) → Err e ≡ done y → d ≡ leaves y (put d at (low_bytes (look d at) (four n))) d

@@ -27,7 +27,7 @@ no_read_chain Read n k t m h = absurd (h refl)
 no_read_chain (Write a) n k t m h = refl
 
 module _ (d : Objects) (s : Option Chain) (m : Bytes) (toggle : Bool) where
-  without_chain : no_chain segment_read (chain_of s m) ≡ true → Carried (SegmentRead toggle) d (chain_of s m) m (Err (fault-of.Chain chain.TheVariants.NoChain)) closed d m
+  pub without_chain : no_chain segment_read (chain_of s m) ≡ true → Carried (SegmentRead toggle) d (chain_of s m) m (Err (fault-of.Chain chain.TheVariants.NoChain)) closed d m
   unfolding Carried
   without_chain h node f is passes =
       leaves_by node d (chain_of s m) m f segment_read (Some NoChain) is.0 (read_row node d (chain_of s m) f passes is.0 ∙ cond-true _ _ _ h)

@@ -107,6 +107,19 @@ few_pairs (c ∷ []) = omega arith
 few_pairs (high ∷ low ∷ text) =
     omega (arith, length_in_front (joined (digit_value high) (digit_value low)) (pairs text) (length text) (few_pairs text))
 
+more_whole : (b : Option ℕ) (bs : Option (List ℕ)) (n : ℕ) → (is_some bs ≡ true → n ≡ 2 * length (or_none bs)) → is_some (in_front b bs) ≡ true
+    → n + 2 ≡ 2 * length (or_none (in_front b bs))
+more_whole None bs n h e = cc
+more_whole (Some b) None n h e = cc
+more_whole (Some b) (Some bs) n h e = omega (arith, h refl)
+
+-- digit pairs have two characters for each byte
+pub whole_length : (text : List ℕ) → is_some (pairs text) ≡ true → length text ≡ 2 * length (or_none (pairs text))
+whole_length [] e = refl
+whole_length (c ∷ []) e = cc
+whole_length (high ∷ low ∷ text) e =
+    let more = more_whole (joined (digit_value high) (digit_value low)) (pairs text) (length text) (whole_length text) e in omega (arith, more)
+
 few_spelled : (o : Option (List ℕ)) (n : ℕ) → n ≤ 4096 → 2 * length (or_none o) ≤ n → Within (spelled o)
 few_spelled None n h k = tt
 few_spelled (Some xs) n h k = omega arith

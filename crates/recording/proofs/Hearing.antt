@@ -126,10 +126,6 @@ some_number : (t : Bool) (h : Held) → is_some (number_of t h) ≡ t
 some_number true h = refl
 some_number false h = refl
 
-told_ending : (t : Bool) (h : Held) → told_last t (ending h) ≡ told_last t h
-told_ending true h = refl
-told_ending false h = refl
-
 -- ---- what a listener hears
 
 module _ {S : Type 0} (hears : S → ℕ → Meaning → S → Type 0) (pauses : S → S → Type 0) where
@@ -157,14 +153,22 @@ module _ {S : Type 0} (hears : S → ℕ → Meaning → S → Type 0) (pauses :
         took = folds_append f.events g.events s t u f.took g.took;
       }
 
-  -- the line that ended last was told, if one did
-  pub told_one : (o : Option ℕ) (n : ℕ) (m : Meaning) (h : Held) (s t : S) → o ≡ Some n → IfSome o (λ k. k ≡ h.number) → m ≡ meaning h.text → hears s n m t
-      → Hears hears pauses (told_last (is_some o) h) s t
-  told_one None n m h s t e f g x = cc
-  told_one (Some k) n m h s t e f g x =
-      let number : n ≡ h.number = cc in
+  pub hears_none : (s : S) → Hears hears pauses [] s s
+  hears_none s = record { events = []; all = refl; took = refl }
+
+  -- the line that ended last was told
+  pub told_one : (n : ℕ) (m : Meaning) (h : Held) (s t : S) → n ≡ h.number → m ≡ meaning h.text → hears s n m t → Hears hears pauses (told_last true h) s t
+  told_one n m h s t e f x =
       let P : ℕ × Meaning → Type 0 = λ p. Hears hears pauses (p ∷ []) s t in
-      subst P (λ i. (number i, g i)) (hears_line s t n m x)
+      subst P (λ i. (e i, f i)) (hears_line s t n m x)
+
+  -- a line ended and was told, or none did
+  pub told_some : (o : Option ℕ) (n : ℕ) (h : Held) (s t u : S) → o ≡ Some n → u ≡ t → Hears hears pauses (told_last true h) s t
+      → Hears hears pauses (told_last (is_some o) h) s u
+  told_some o n h s t u e f x = subst (λ o. Hears hears pauses (told_last (is_some o) h) s u) (sym e) (subst (Hears hears pauses (told_last true h) s) (sym f) x)
+
+  pub told_none : (o : Option ℕ) (h : Held) (s u : S) → o ≡ None → u ≡ s → Hears hears pauses (told_last (is_some o) h) s u
+  told_none o h s u e f = subst (λ o. Hears hears pauses (told_last (is_some o) h) s u) (sym e) (subst (Hears hears pauses [] s) (sym f) (hears_none s))
 
   -- one byte more was taken
   pub one_more : (bytes : List ℕ) (i : ℕ) (o : Option ℕ) (h mid new : Held) (s t u : S) → i < length bytes → mid ≡ all_taken (take i bytes) h
@@ -185,16 +189,6 @@ module _ {S : Type 0} (hears : S → ℕ → Meaning → S → Type 0) (pauses :
         taken ∙ sym (taken_append front (b ∷ []) h) ∙ ap (λ l. all_taken l h) (sym more),
         subst P all (hears_more (ending_lines front h) (told_last (is_some o) new) s t u f g),
       )
-
-  -- the line that the end of an input ends was told
-  pub ends_line : (h new : Held) (o : Option ℕ) (s t u : S) → new ≡ ending h → o ≡ number_of h.begun new → Hears hears pauses (told_last (is_some o) new) s t
-      → pauses t u → Hears hears pauses (told_last h.begun h) s u
-  ends_line h new o s t u e n f g =
-      let told = told_last (is_some o) new in
-      let last : told ≡ told_last h.begun h
-      = ap (λ x. told_last (is_some x) new) n ∙ ap (λ t. told_last t new) (some_number h.begun new) ∙ ap (told_last h.begun) e ∙ told_ending h.begun h in
-      let P : List (ℕ × Meaning) → Type 0 = λ l. Hears hears pauses l s u in
-      subst P (append-nil told ∙ last) (hears_more told [] s t u f (hears_pause t u g))
 
   -- bytes of an input were taken by n reads, and what is left of it is known or not
   pub record Playing (known left : Option (List ℕ)) (n : ℕ) (h : Held) (old new : S) : Type 0 where

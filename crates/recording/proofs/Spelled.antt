@@ -1,9 +1,12 @@
 -- Each value under 16 has a digit of its own, found by one computed test; the digits of bytes read back. Assumes nothing.
-use Rattle.std.proofs.Common.{◌≡◌, ℕ, zero, suc, ◌+◌, ◌*◌, ◌/◌, ◌%◌, ◌^◌, ◌-◌, ◌<◌, Bool, true, false, ◌&&◌, eqb, ltb, List, [], ◌∷◌, ◌++◌, length, get_or, take, Some, None, Option, refl, sym, ap, ◌∙◌, inl, inr, append_assoc, arith}
+use Rattle.std.proofs.Common.{◌≡◌, ℕ, zero, suc, ◌+◌, ◌*◌, ◌/◌, ◌%◌, ◌^◌, ◌-◌, ◌<◌, Bool, true, false, ◌&&◌, eqb, ltb, List, [], ◌∷◌, ◌++◌, get_or, Some, None, Option, Ok, Err, Result, Bor, refl, sym, ap, subst, ◌∙◌, inl, inr, append_assoc, arith}
 use Rattle.std.specs.Fmt.{digit_glyph, padded_integral, digits, digits_output, styled_digits_output, format_spec}
 use Rattle.std.specs.Option.{option_map}
+use Rattle.std.specs.Result.{IsOk, MatchResult}
+use Rattle.std.specs.Str.{IsAscii, IsUtf8}
+use Rattle.std.proofs.lemmas.Str.{IsAscii-append, IsUtf8-from_ascii}
+use Rattle.std.proofs.lemmas.Str.Ascii.{IsAscii-nil}
 use Rattle.std.proofs.lemmas.Fmt.{hex_byte}
-use Rattle.std.proofs.lemmas.List.{flat_map_more, take_more}
 use Rattle.std.proofs.lemmas.Bool.{and_parts, both_ways, cases_eq, eqb-true, ltb-true}
 use Rattle.recording.specs.Meaning.{digit_value, joined, in_front, pairs}
 use Rattle.recording.specs.Spelling.{upper_digits, spelled_byte, spelled_bytes}
@@ -50,6 +53,25 @@ pub all_read_back : (bytes : List ℕ) → ((i : ℕ) → get_or bytes i 0 < 256
 all_read_back [] h = refl
 all_read_back (b ∷ bytes) h = pairs_append b (spelled_bytes bytes) bytes (h 0) (all_read_back bytes (λ i. h (suc i)))
 
+pair_ascii : (x y : ℕ) → x < 128 → y < 128 → IsAscii (x ∷ y ∷ [])
+pair_ascii x y h k zero = h
+pair_ascii x y h k (suc zero) = k
+pair_ascii x y h k (suc (suc i)) = IsAscii-nil i
+
+-- the digits of bytes are characters of one byte each
+ascii : (bytes : List ℕ) → ((i : ℕ) → get_or bytes i 0 < 256) → IsAscii (spelled_bytes bytes)
+ascii [] h = IsAscii-nil
+ascii (b ∷ bytes) h =
+    let small : b < 256 = h 0 in
+    let both = pair_ascii _ _ (digit_small (b / 16) (omega arith)) (digit_small (b % 16) (omega arith)) in
+    IsAscii-append (spelled_byte b) (spelled_bytes bytes) both (ascii bytes (λ i. h (suc i)))
+
+-- so they are a text
+pub is_text : {E : Type 0} (Q : E → Type 0) (r : Result (Bor (List ℕ)) E) (text bytes : List ℕ) → text ≡ spelled_bytes bytes
+    → ((i : ℕ) → get_or bytes i 0 < 256) → MatchResult r (λ s. (s.now ≡ text) × IsUtf8 text) (λ e. ¬ (IsUtf8 text) × Q e) → IsOk r
+is_text Q (Ok s) text bytes e h m = refl
+is_text Q (Err x) text bytes e h m = absurd (m.0 (subst IsUtf8 (sym e) (IsUtf8-from_ascii (spelled_bytes bytes) (ascii bytes h))))
+
 -- two texts pushed one after the other
 pub pushed_twice : (old mid a b ab : List ℕ) → mid ≡ old ++ a → a ++ b ≡ ab → mid ++ b ≡ old ++ ab
 pushed_twice old mid a b ab e f = ap (λ l. l ++ b) e ∙ append_assoc old a b ∙ ap (λ l. old ++ l) f
@@ -69,7 +91,3 @@ pub shown : (d : _) (s : _) (b : ℕ) → b < 256 → digits_output d ≡ Some (
 shown d s b h e f =
     let spec = format_spec 32 0 4 2 (2 ^ 64 - 1) in
     ap (styled_digits_output d) f ∙ ap (option_map (padded_integral spec false [])) e ∙ ap Some (two_digits b h)
-
--- one byte more is written
-pub one_written : (bytes : List ℕ) (i : ℕ) → i < length bytes → spelled_bytes (take i bytes) ++ spelled_byte (get_or bytes i 0) ≡ spelled_bytes (take (i + 1) bytes)
-one_written bytes i h = flat_map_more spelled_byte [] (take i bytes) (get_or bytes i 0) ∙ ap spelled_bytes (sym (take_more bytes i 0 h))

@@ -10,7 +10,7 @@ mod spelling;
 
 pub use digits::Digits;
 pub use gathering::Lines;
-pub use pairs::Pairs;
-pub use playing::{Listener, play};
+pub use pairs::{MOST_BYTES, Pairs};
+pub use playing::{Listener, no_memory, play};
 pub use reading::{BadLine, Line, read_line};
 pub use spelling::{push_pairs, spell};

@@ -5,6 +5,9 @@ ghost use Rattle.recording.specs.Meaning.{digit_value, joined, pairs, spelled, s
 // A line may have so many characters, its line feed not counted.
 const LONGEST_LINE: usize = 4096;
 
+// The bytes that the longest line can spell.
+pub const MOST_BYTES: usize = LONGEST_LINE / 2;
+
 // The bytes of a text of digit pairs, one at a time: 2,048 at most. Equal ones have the same characters.
 #[derive(Clone, Copy, Debug, PartialEq, Eq)]
 pub struct Pairs<'a> {
@@ -25,6 +28,16 @@ impl<'a> Pairs<'a> {
             return None;
         }
         Some(Pairs { text })
+    }
+
+    // How many bytes are left.
+    #[tactic(auto, using(crate::proofs::Couples::whole_length))]
+    pub fn len(&self) -> usize
+        ensures bytes { result ≡ length (left self.now) }
+        ensures few { result ≤ MOST_BYTES }
+        ensures most { MOST_BYTES ≡ 2048 }
+    {
+        self.text.len() / 2
     }
 }
 

@@ -1,11 +1,14 @@
 // A recording is read from its start to its end, and each of its lines is told to a listener.
-ghost use Rattle.std.specs.Prelude.{◌≡◌, ℕ, is_some, IfSome, OnOk, IfOk};
+ghost use Rattle.std.specs.Prelude.{◌≡◌, ℕ, true, OnOk, IfOk};
+ghost use Rattle.std.specs.IoError.{error_kind};
+ghost use Rattle.std.specs.declared.io.ErrorKind.TheVariants.{OutOfMemory};
 ghost use Rattle.recording.specs.Meaning.{Meaning};
 ghost use Rattle.recording.specs.Reading.{said};
 ghost use Rattle.recording.specs.Playing.{told_last, all_taken, ending_lines, Hears, Played};
 
 use crate::gathering::Lines;
 use crate::reading::{BadLine, Line};
+use std::alloc::AllocError;
 use std::io;
 use std::io::Read;
 
@@ -24,21 +27,26 @@ pub trait Listener {
     fn line(&mut self, number: u64, line: Result<Line<'_>, BadLine>) -> io::Result<()>
         ensures { OnOk result (hears self.old number (said line.entry) self.new) };
 
-    // Is told that the next line may come late, or that none does.
+    // Is told that the next line may come late.
     fn pause(&mut self) -> io::Result<()>
         ensures { OnOk result (pauses self.old self.new) };
 }
 
+// Want of memory, as a listener tells it: in the words of an `AllocError`, which an error that `?` makes of one doesn't have.
+pub fn no_memory(_error: AllocError) -> io::Error
+    ensures { error_kind result ≡ OutOfMemory }
+{
+    io::Error::new(io::ErrorKind::OutOfMemory, "memory allocation failed")
+}
+
 impl Lines {
-    // Tells the line that ended last, if one did now.
-    fn tell<L: Listener>(&self, ended: Option<u64>, listener: &mut L) -> io::Result<()>
-        requires { IfSome ended (λ n. n ≡ self.now.number) }
-        ensures { OnOk result (Hears L.hears L.pauses (told_last (is_some ended) self.now) listener.old listener.new) }
+    // Tells the line that ended last.
+    #[inline(always)]
+    fn tell<L: Listener>(&self, number: u64, listener: &mut L) -> io::Result<()>
+        requires { number ≡ self.now.number }
+        ensures { OnOk result (Hears L.hears L.pauses (told_last true self.now) listener.old listener.new) }
     {
-        match ended {
-            Some(number) => listener.line(number, self.line()),
-            None => Ok(()),
-        }
+        listener.line(number, self.line())
     }
 
     // Takes a part of the input, and tells the lines that end in it.
@@ -46,8 +54,10 @@ impl Lines {
         ensures { OnOk result ((self.new ≡ all_taken chunk.now self.old) × Hears L.hears L.pauses (ending_lines chunk.now self.old) listener.old listener.new) }
     {
         for b in chunk {
-            let ended = self.take(*b);
-            self.tell(ended, listener)?;
+            // What a listener answers is large, so most bytes, which end no line, pass it by.
+            if let Some(number) = self.take(*b) {
+                self.tell(number, listener)?;
+            }
         }
         Ok(())
     }
@@ -56,9 +66,9 @@ impl Lines {
     fn end<L: Listener>(&mut self, listener: &mut L) -> io::Result<u64>
         ensures { IfOk result (λ count. (count ≡ self.old.number) × Hears L.hears L.pauses (told_last self.old.begun self.old) listener.old listener.new) }
     {
-        let ended = self.finish();
-        self.tell(ended, listener)?;
-        listener.pause()?;
+        if let Some(number) = self.finish() {
+            self.tell(number, listener)?;
+        }
         Ok(self.number())
     }
 }

@@ -1,13 +1,13 @@
 // What passes on a cable is heard, and reported.
 ghost use Rattle.std.specs.Prelude.{◌≡◌, ℕ, List, [], ◌∷◌, ◌++◌, is_ok, if◌then◌else◌, OnOk};
-ghost use Rattle.recording.specs.Reading.{left};
+ghost use Rattle.recording.specs.Reading.{left, said};
 ghost use Rattle.sniffer.specs.Adding.{Adds, AddsEach, ByResult};
 ghost use Rattle.sniffer.specs.Reporting.{unreported, with_line, total_line_lem};
 ghost use Rattle.sniffer.specs.Sniffing.{Took, Sniffs, Prints};
 
 use crate::passing::judge;
 use crate::reports::Report;
-use recording::{BadLine, Line, Listener, Pairs};
+use recording::{BadLine, Line, Listener, Pairs, no_memory};
 use std::alloc::AllocError;
 use std::io;
 use wire::{LONGEST_BODY, Receiver};
@@ -57,6 +57,20 @@ impl<'a> Sniffer<'a> {
         Ok(())
     }
 
+    // Takes what a line of the recording says. Out of line, so that the loop over lines holds only its small result.
+    #[inline(never)]
+    fn hear(&mut self, number: u64, line: Result<Line<'_>, BadLine>) -> Result<(), AllocError>
+        ensures { OnOk result (Sniffs self.old number (said line.entry) self.new) }
+    {
+        match line {
+            Ok(Line::Bytes(bytes)) => self.take_all(bytes)?,
+            Ok(Line::Silence) => self.receiver.silence(),
+            Ok(Line::Nothing) => {}
+            Err(BadLine) => self.report.bad_line(number)?,
+        }
+        Ok(())
+    }
+
     // The recording ends here: adds the line of the counts.
     pub fn end(&mut self, lines: u64) -> Result<(), AllocError>
         ensures { self.new.report ≡ (if is_ok result then with_line (total_line_lem self.old.report.tally lines) self.old.report.tally self.old.report else self.old.report) }
@@ -70,14 +84,10 @@ impl Listener for Sniffer<'_> {
 
     ghost pauses = { Prints };
 
+    // In line, so that the large error is made only where one is told.
+    #[inline(always)]
     fn line(&mut self, number: u64, line: Result<Line<'_>, BadLine>) -> io::Result<()> {
-        match line {
-            Ok(Line::Bytes(bytes)) => self.take_all(bytes)?,
-            Ok(Line::Silence) => self.receiver.silence(),
-            Ok(Line::Nothing) => {}
-            Err(BadLine) => self.report.bad_line(number)?,
-        }
-        Ok(())
+        self.hear(number, line).map_err(|error| no_memory(error))
     }
 
     fn pause(&mut self) -> io::Result<()> {

@@ -24,7 +24,7 @@ run_tells pool r place c = record { so = ap (λ n. record { access = r.access; s
 
 -- What is stored is held.
 
-low_bytes_of : (bs : Bytes) → ((i : ℕ) → get_or bs i 0 < 256) → low_bytes (length bs) (unsigned_value bs) ≡ bs
+pub low_bytes_of : (bs : Bytes) → ((i : ℕ) → get_or bs i 0 < 256) → low_bytes (length bs) (unsigned_value bs) ≡ bs
 low_bytes_of [] small = refl
 low_bytes_of (b ∷ bs) small =
     let s : b < 256 = small 0 in

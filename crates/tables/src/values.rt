@@ -59,10 +59,14 @@ fn in_range(shape: Shape, bytes: &[u8]) -> Result<(), Fault>
 pub(crate) fn unsigned(bytes: &[u8]) -> u32
     ensures { result ≡ unsigned_value (take 4 bytes.now) }
 {
-    let mut four = [0; 4];
-    let length = bytes.len().min(4);
-    four[..length].copy_from_slice(&bytes[..length]);
-    u32::from_le_bytes(four)
+    // By length, and not through an array of four: a copy of a few bytes costs more than all else of a write.
+    match bytes {
+        [] => 0,
+        [a] => u32::from(*a),
+        [a, b] => u32::from(u16::from_le_bytes([*a, *b])),
+        [a, b, c] => u32::from_le_bytes([*a, *b, *c, 0]),
+        [a, b, c, d, ..] => u32::from_le_bytes([*a, *b, *c, *d]),
+    }
 }
 
 // The number that 1, 2 or 4 bytes stand for, in two's complement if signed.

@@ -84,6 +84,8 @@ impl Answer {
     pub fn lay(&self, memory: &mut [u8]) -> Result<usize, Refusal>
         ensures result { result ≡ (laying 0 self.now memory.old).result }
         ensures memory { memory.new ≡ (laying 0 self.now memory.old).memory }
+        ensures words { length self.now % 2 ≡ 0 }
+        ensures few { length self.now ≤ 264 }
         ensures longest { LONGEST_ANSWER ≡ 538 }
         ensures suffices { 538 ≤ length memory.old → (result ≡ Ok (length (framed (body_of 0 self.now)))) × (memory.new ≡ laid (framed (body_of 0 self.now)) memory.old) }
     {

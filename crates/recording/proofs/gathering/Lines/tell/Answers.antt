@@ -7,9 +7,8 @@ where_ok : {T E P Q : Type 0} (r : Result T E) → (P → Q) → OnOk r P → On
 where_ok (Ok x) f p = f p
 where_ok (Err e) f p = tt
 
-pub returns-in-Some : goal.returns-in-Some
-returns-in-Some g c =
-    where_ok c.line-in-Some.result
-    (told_one g.L.Listener.hears g.L.Listener.pauses c.args.ended c.in-Some.number (said c.line.result) c.args.self.now
-    c.args.listener.now c.line-in-Some.new.self c.in-Some.is c.requires c.line.ensures.told)
-    c.line-in-Some.ensures
+pub returns : goal.returns
+returns g c =
+    where_ok c.line-2.result
+    (told_one g.L.Listener.hears g.L.Listener.pauses c.args.number (said c.line.result) c.args.self.now c.args.listener.now c.line-2.new.self c.requires c.line.ensures.told)
+    c.line-2.ensures
