@@ -1,5 +1,5 @@
 // A port over a dictionary, which listens to a recording.
-ghost use Rattle.std.specs.Prelude.{◌≡◌, [], string_bytes, OnOk};
+ghost use Rattle.std.specs.Prelude.{◌≡◌, ℕ, [], string_bytes, Ok, OnOk};
 ghost use Rattle.recording.specs.Reading.{left, said};
 ghost use Rattle.bench.specs.Boards.{state, Serves, Prints};
 ghost use Rattle.bench.specs.Serving.{taken, all_taken};
@@ -71,17 +71,15 @@ impl<'a, D: Dictionary> Board<'a, D> {
         Ok(())
     }
 
-    // Does what a line of a recording says. A bad one is printed by its number and gives no byte.
-    // Out of line, so that the loop over lines holds only its small result.
+    // Does what a good line of a recording says. Out of line, so that the loop over lines holds only its small result.
     #[inline(never)]
-    fn serve(&mut self, number: u64, line: Result<Line<'_>, BadLine>) -> Result<(), AllocError>
-        ensures { OnOk result (Serves D.Dictionary.meaning self.old number (said line.entry) self.new) }
+    fn serve(&mut self, line: Line<'_>) -> Result<(), AllocError>
+        ensures { (number : ℕ) → OnOk result (Serves D.Dictionary.meaning self.old number (said (Ok line.entry)) self.new) }
     {
         match line {
-            Ok(Line::Bytes(bytes)) => self.take_all(bytes)?,
-            Ok(Line::Silence) => self.port.silence(),
-            Ok(Line::Nothing) => {}
-            Err(BadLine) => writeln!(self.text, "?{number}")?,
+            Line::Bytes(bytes) => self.take_all(bytes)?,
+            Line::Silence => self.port.silence(),
+            Line::Nothing => {}
         }
         Ok(())
     }
@@ -95,7 +93,12 @@ impl<D: Dictionary> Listener for Board<'_, D> {
     // In line, so that the large error is made only where one is told.
     #[inline(always)]
     fn line(&mut self, number: u64, line: Result<Line<'_>, BadLine>) -> io::Result<()> {
-        self.serve(number, line).map_err(|error| no_memory(error))
+        // A bad line is printed by its number and gives no byte.
+        let served = match line {
+            Ok(line) => self.serve(line),
+            Err(BadLine) => writeln!(self.text, "?{number}"),
+        };
+        served.map_err(|error| no_memory(error))
     }
 
     fn pause(&mut self) -> io::Result<()> {

@@ -1,5 +1,5 @@
 // What passes on a cable is heard, and reported.
-ghost use Rattle.std.specs.Prelude.{◌≡◌, ℕ, List, [], ◌∷◌, ◌++◌, is_ok, if◌then◌else◌, OnOk};
+ghost use Rattle.std.specs.Prelude.{◌≡◌, ℕ, List, [], ◌∷◌, ◌++◌, is_ok, if◌then◌else◌, Ok, OnOk};
 ghost use Rattle.recording.specs.Reading.{left, said};
 ghost use Rattle.sniffer.specs.Adding.{Adds, AddsEach, ByResult};
 ghost use Rattle.sniffer.specs.Reporting.{unreported, with_line, total_line_lem};
@@ -57,16 +57,15 @@ impl<'a> Sniffer<'a> {
         Ok(())
     }
 
-    // Takes what a line of the recording says. Out of line, so that the loop over lines holds only its small result.
+    // Takes what a good line of the recording says. Out of line, so that the loop over lines holds only its small result.
     #[inline(never)]
-    fn hear(&mut self, number: u64, line: Result<Line<'_>, BadLine>) -> Result<(), AllocError>
-        ensures { OnOk result (Sniffs self.old number (said line.entry) self.new) }
+    fn hear(&mut self, line: Line<'_>) -> Result<(), AllocError>
+        ensures { (number : ℕ) → OnOk result (Sniffs self.old number (said (Ok line.entry)) self.new) }
     {
         match line {
-            Ok(Line::Bytes(bytes)) => self.take_all(bytes)?,
-            Ok(Line::Silence) => self.receiver.silence(),
-            Ok(Line::Nothing) => {}
-            Err(BadLine) => self.report.bad_line(number)?,
+            Line::Bytes(bytes) => self.take_all(bytes)?,
+            Line::Silence => self.receiver.silence(),
+            Line::Nothing => {}
         }
         Ok(())
     }
@@ -87,7 +86,11 @@ impl Listener for Sniffer<'_> {
     // In line, so that the large error is made only where one is told.
     #[inline(always)]
     fn line(&mut self, number: u64, line: Result<Line<'_>, BadLine>) -> io::Result<()> {
-        self.hear(number, line).map_err(|error| no_memory(error))
+        let heard = match line {
+            Ok(line) => self.hear(line),
+            Err(BadLine) => self.report.bad_line(number),
+        };
+        heard.map_err(|error| no_memory(error))
     }
 
     fn pause(&mut self) -> io::Result<()> {
